@@ -1,0 +1,1 @@
+// The mathematics of the worksheet: the terms of lattice theory.

@@ -1,0 +1,5 @@
+pub mod Nodes
+pub mod Terms
+pub mod Records
+pub mod Enter
+pub mod Keep

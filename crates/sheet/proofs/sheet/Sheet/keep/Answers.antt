@@ -1,0 +1,55 @@
+use mathlib.Core.Path.{_≡_, sym, ap, subst, subst₂, _∙_}
+use mathlib.Core.List.{List, map}
+use Prim.Native.Nat.{_≤_}
+use native.Mathlib.Omega.{arith}
+use lib.ListN.{length, take, length-map}
+use Rattle.std.specs.Of.Vec.{vec-items, vec-len}
+use Rattle.std.proofs.shelf.Lists.{length-take}
+use Rattle.sheet.specs.declared.node.Record.{Record}
+use Rattle.sheet.specs.Nodes.{Grounded, Distinct}
+use Rattle.sheet.specs.Records.{nodes, memo, within, Inside}
+use Rattle.sheet.specs.View.{state}
+use Rattle.sheet.proofs.Nodes.{grounded-less, distinct-less}
+use Rattle.sheet.proofs.Records.{shorter, nodes-shorter, memo-shorter, inside-shorter}
+use Rattle.sheet.proofs.Keep.{kept-all}
+use Rattle.sheet.proofs.sheet.Sheet.keep.Needs as need
+
+pub ghost-self : need.ghost-self
+ghost-self c =
+    let sheet = c .args .self .now in
+    let n = c .args .n in
+    let rs = vec-items (sheet .records) in
+    let fit : n ≤ length rs = omega (arith, sheet .records .ok .0) in
+    let items : vec-items (c .forget .last .records) ≡ shorter n rs = c .forget .ensures .items ∙ ap (map (within n)) (c .truncate .ensures .items) in
+    let long : vec-len (c .forget .last .records) ≡ n = omega (arith, c .forget .last .records .ok .0, ap length items, length-map (take n rs) (within n), length-take n rs) in
+    let all = ap nodes items ∙ nodes-shorter n rs in (
+      omega (arith, sheet .few),
+      (
+        omega (arith, sheet .room, c .forget .ensures .capacity, c .truncate .ensures .capacity),
+        (
+          subst Grounded (sym all) (grounded-less (nodes rs) n (sheet .grounded)),
+          (
+            subst Distinct (sym all) (distinct-less (nodes rs) n (sheet .distinct)),
+            (subst₂ (λ k l. Inside k (memo l)) (sym long) (sym items) (inside-shorter n rs fit), tt),
+          ),
+        ),
+      ),
+    )
+
+pub returns-then-n-len : need.returns-then-n-len
+returns-then-n-len c =
+    let sheet = c .args .self .now in
+    let n = c .args .n in
+    let rs = vec-items (sheet .records) in
+    let fit : n ≤ length rs = omega (arith, sheet .records .ok .0) in
+    let items : vec-items (c .forget .last .records) ≡ shorter n rs = c .forget .ensures .items ∙ ap (map (within n)) (c .truncate .ensures .items) in
+    let all = ap nodes items ∙ nodes-shorter n rs in
+    let settled = ap memo items ∙ memo-shorter n rs fit in
+    λ i. record { nodes = all i; memo = settled i }
+
+pub returns-else-n-len : need.returns-else-n-len
+returns-else-n-len c =
+    let sheet = c .args .self .now in
+    let S = state sheet in
+    let long = length-map (vec-items (sheet .records)) (λ (r : Record). r .node) in
+    sym (kept-all (c .args .n) S (omega (arith, sheet .records .ok .0)) (subst (λ k. Inside k (S .memo)) (sheet .records .ok .0 ∙ sym long) (sheet .inside)))
