@@ -3,3 +3,4 @@ pub mod Terms
 pub mod Records
 pub mod Enter
 pub mod Keep
+pub mod View

@@ -2,13 +2,13 @@ use mathlib.Core.Path.{_≡_, sym, ap, subst, subst₂, _∙_}
 use mathlib.Core.List.{List, [], _∷_, _++_}
 use Prim.Native.Nat.{_<_, _≤_}
 use native.Mathlib.Omega.{arith}
-use lib.ListN.{length, length-map}
+use lib.ListN.{length}
 use Rattle.std.specs.Of.Vec.{vec-items, vec-len}
-use Rattle.sheet.specs.declared.node.Record.{Record}
 use Rattle.sheet.specs.Nodes.{Grounded, Distinct}
 use Rattle.sheet.specs.Records.{nodes, memo, fresh, Inside}
 use Rattle.sheet.proofs.Nodes.{grounded-more, distinct-more}
 use Rattle.sheet.proofs.Records.{nodes-push, memo-push, inside-more}
+use Rattle.sheet.proofs.View.{count-is, at-most}
 use Rattle.sheet.proofs.Enter.{judged-fits, entering-old, entering-new, entered-old, entered-new}
 use Rattle.std.specs.declared.result.Result.the-variants.{Ok}
 use Rattle.sheet.specs.State.{count}
@@ -27,8 +27,7 @@ returns-in-Some c =
 
 pub push-reserved-requires : need.push-reserved-requires
 push-reserved-requires c κs =
-    let sheet = c .args .self .now in
-    omega (arith, sheet .few, sheet .room, length-map (vec-items (sheet .records)) (λ (r : Record). r .node), sheet .records .ok .0)
+    let sheet = c .args .self .now in omega (arith, sheet .few, sheet .room, count-is sheet)
 
 pub ghost-self : need.ghost-self
 ghost-self c =
@@ -37,9 +36,8 @@ ghost-self c =
     let n = c .args .node in
     let p = c .push-reserved .ensures in
     let items : vec-items (c .push-reserved .last .self) ≡ rs ++ fresh n ∷ [] = p .items ∙ ap (λ r. rs ++ r ∷ []) (c .new .ensures) in
-    let all = ap nodes items ∙ nodes-push rs n in
-    let long = length-map rs (λ (r : Record). r .node) in (
-      omega (arith, sheet .few, sheet .records .ok .0),
+    let all = ap nodes items ∙ nodes-push rs n in (
+      omega (arith, sheet .few, count-is sheet),
       (
         omega arith,
         (
@@ -62,7 +60,7 @@ returns c =
     let all = ap nodes items ∙ nodes-push rs n in
     let settled = ap memo items ∙ memo-push rs n in
     let number = c .count-k .ensures in
-    let room : count S < 60 = omega (arith, sheet .few, sheet .records .ok .0, length-map rs (λ (r : Record). r .node), c .if-k-eq-MOST .left) in
+    let room : count S < 60 = omega (arith, at-most sheet, c .if-k-eq-MOST .left) in
     record {
       does = (λ i. (record { nodes = all i; memo = settled i }, Ok (number i))) ∙ entering-new S n (sym (c .in-Continue-judge .ensures tt)) (sym (c .in-rest .ensures tt)) room;
       law = subst₂ (λ l k. Entered (S .nodes) n l k) (sym all) (sym number) (entered-new (S .nodes) n);

@@ -5,13 +5,13 @@ use native.Mathlib.Omega.{arith}
 use lib.ListN.{length, take, length-map}
 use Rattle.std.specs.Of.Vec.{vec-items, vec-len}
 use Rattle.std.proofs.shelf.Lists.{length-take}
-use Rattle.sheet.specs.declared.node.Record.{Record}
 use Rattle.sheet.specs.Nodes.{Grounded, Distinct}
 use Rattle.sheet.specs.Records.{nodes, memo, within, Inside}
 use Rattle.sheet.specs.View.{state}
 use Rattle.sheet.proofs.Nodes.{grounded-less, distinct-less}
 use Rattle.sheet.proofs.Records.{shorter, nodes-shorter, memo-shorter, inside-shorter}
 use Rattle.sheet.proofs.Keep.{kept-all}
+use Rattle.sheet.proofs.View.{count-is, settled-inside}
 use Rattle.sheet.proofs.sheet.Sheet.keep.Needs as need
 
 pub ghost-self : need.ghost-self
@@ -50,6 +50,4 @@ returns-then-n-len c =
 pub returns-else-n-len : need.returns-else-n-len
 returns-else-n-len c =
     let sheet = c .args .self .now in
-    let S = state sheet in
-    let long = length-map (vec-items (sheet .records)) (λ (r : Record). r .node) in
-    sym (kept-all (c .args .n) S (omega (arith, sheet .records .ok .0)) (subst (λ k. Inside k (S .memo)) (sheet .records .ok .0 ∙ sym long) (sheet .inside)))
+    sym (kept-all (c .args .n) (state sheet) (omega (arith, count-is sheet)) (settled-inside sheet))

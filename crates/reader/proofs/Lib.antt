@@ -1,0 +1,11 @@
+pub mod Cutting
+pub mod Spelling
+pub mod Reading
+pub mod Growing
+pub mod Placing
+pub mod Sound
+pub mod Complete
+pub mod Overfull
+pub mod Unambiguous
+pub mod Bounds
+pub mod Exact
