@@ -1,5 +1,8 @@
 -- The faults of reading by their numbers, each with its place and its layer.
+use mathlib.Core.List.{List, _++_}
 use Prim.Native.Nat.{ℕ}
+use lib.Chars.{codes}
+use Rattle.std.specs.Written.{decimal}
 use Rattle.std.specs.declared.result.Result.{Result}
 use Rattle.std.specs.declared.result.Result.the-variants.{Ok, Err}
 use Rattle.reader.specs.declared.fault.Fault.{Fault}
@@ -40,3 +43,11 @@ by-reader n p = record { number = n; place = p; layer = Reader }
 
 abbrev pub by-sheet : ℕ → ℕ → Row
 by-sheet n p = record { number = n; place = p; layer = Sheet }
+
+abbrev pub layer-text : Layer → List ℕ
+layer-text Cutter = codes "cutter"
+layer-text Reader = codes "reader"
+layer-text Sheet = codes "sheet"
+
+abbrev pub text : Row → List ℕ
+text f = decimal (f .number) ++ (codes " at " ++ (decimal (f .place) ++ (codes " in " ++ layer-text (f .layer))))

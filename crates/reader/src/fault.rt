@@ -1,6 +1,8 @@
 // Why a text is not read: the cause, the place and the layer that found it.
 ghost use mathlib.Core.Path.{_≡_};
-ghost use Rattle.reader.specs.Faults.{row};
+ghost use Rattle.std.specs.declared.option.Option.the-variants.{Some};
+ghost use Rattle.reader.specs.Faults.{row, layer-text, text};
+use std::fmt;
 
 #[derive(Clone, Copy, PartialEq, Eq, Debug)]
 pub enum Cause {
@@ -51,5 +53,29 @@ impl Fault {
             Cause::Trailing => 7,
             Cause::Full => 8,
         }
+    }
+}
+
+pub impl fmt::Display for Layer as LayerDisplay {
+    ghost shown = { λ l. Some (layer-text l) };
+
+    fn fmt<W: fmt::Write>(&self, f: &mut fmt::Formatter<W>) -> fmt::Result {
+        match self {
+            Layer::Cutter => f.write_str("cutter"),
+            Layer::Reader => f.write_str("reader"),
+            Layer::Sheet => f.write_str("sheet"),
+        }
+    }
+}
+
+// The number, the place and the layer.
+pub impl fmt::Display for Fault as FaultDisplay {
+    ghost shown = { λ x. Some (text (row x)) };
+
+    fn fmt<W: fmt::Write>(&self, f: &mut fmt::Formatter<W>) -> fmt::Result {
+        let number = self.number();
+        let place = self.place;
+        let layer = self.layer;
+        write!(f, "{number} at {place} in {layer}")
     }
 }

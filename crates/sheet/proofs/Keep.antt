@@ -14,7 +14,7 @@ use Rattle.std.specs.declared.option.Option.{Option}
 use Rattle.std.specs.declared.option.Option.the-variants.{Some, None}
 use Rattle.sheet.specs.declared.node.Node.{Node}
 use Rattle.sheet.specs.Records.{Memo, Inside}
-use Rattle.sheet.specs.State.{State, count}
+use Rattle.sheet.specs.State.{State, blank, count}
 use Rattle.sheet.specs.Keep.{kept}
 
 no-answer : (o : Option Bool) → isSome o ≡ false → None ≡ o
@@ -39,3 +39,9 @@ kept-back S more h =
     let nodes = take-at (S .nodes) more (count S) refl in
     let memo = memo-kept (count S) (count S) (S .memo) h (omega arith) in
     λ i. record { nodes = nodes i; memo = memo i }
+
+-- all is taken off
+pub kept-none : (S : State) → kept 0 S ≡ blank
+kept-none S =
+    let none : (λ i j. cond (ltb (max i j) 0) (S .memo i j) None) ≡ blank .memo = fun-ext (λ i. fun-ext (λ j. ap (λ b. cond b (S .memo i j) None) (le-ltb (max i j) 0 (omega arith)))) in
+    λ i. record { nodes = []; memo = none i }

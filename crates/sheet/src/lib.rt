@@ -9,5 +9,6 @@ pub use node::NodePartialEq;
 pub use node::Record;
 pub use refusal::Refusal;
 pub use refusal::RefusalDebug;
+pub use refusal::RefusalDisplay;
 pub use refusal::RefusalPartialEq;
 pub use sheet::Sheet;

@@ -1,6 +1,8 @@
 // Why a call on the sheet is refused.
 ghost use mathlib.Core.Path.{_≡_};
-ghost use Rattle.sheet.specs.Refused.{row};
+ghost use Rattle.std.specs.declared.option.Option.the-variants.{Some};
+ghost use Rattle.sheet.specs.Refused.{row, text};
+use std::fmt;
 
 #[derive(Clone, Copy, PartialEq, Eq, Debug)]
 pub enum Refusal {
@@ -21,6 +23,19 @@ impl Refusal {
             Refusal::Full => 8,
             Refusal::NoNode(_) => 9,
             Refusal::BadCode => 10,
+        }
+    }
+}
+
+// The number, and behind it the value that the refusal returns.
+pub impl fmt::Display for Refusal as RefusalDisplay {
+    ghost shown = { λ r. Some (text (row r)) };
+
+    fn fmt<W: fmt::Write>(&self, f: &mut fmt::Formatter<W>) -> fmt::Result {
+        let number = self.number();
+        match self {
+            Refusal::NoNode(k) => write!(f, "{number} {k}"),
+            Refusal::Full | Refusal::BadCode => write!(f, "{number}"),
         }
     }
 }
