@@ -1,30 +1,24 @@
 -- What the reader enters has a code, or parts, that there are: it meets no other refusal than a full sheet.
-use mathlib.Core.Path.{_≡_, refl, sym, ap, subst, _∙_}
+use mathlib.Core.Path.{_≡_, refl, sym, ap, subst}
 use mathlib.Core.Bool.{Bool, true, false, cond}
-use mathlib.Core.Logic.{_⊎_, inl, inr, ⊎-elim}
-use mathlib.Core.List.{List, [], _∷_, _++_}
-use Prim.Native.Nat.{ℕ, zero, suc, _+_, _-_, _*_, _<_, _≤_}
+use mathlib.Core.List.{List, [], _∷_}
+use Prim.Native.Nat.{ℕ, _+_, _-_, _*_, _<_, _≤_}
 use native.Mathlib.Omega.{arith}
-use lib.Dec.{eqb, leb, ltb}
+use lib.Dec.{eqb}
 use lib.ListN.{length, drop}
-use Rattle.std.specs.Text.{asciiDigit, asciiLower, within}
-use Rattle.std.proofs.shelf.Lists.{length-push}
+use Rattle.std.specs.Text.{asciiLower}
 use Rattle.std.proofs.shelf.Ways.{tells}
 use Rattle.std.specs.declared.option.Option.{Option}
 use Rattle.std.specs.declared.option.Option.the-variants.{Some, None}
-use Rattle.std.specs.declared.result.Result.{Result}
-use Rattle.std.specs.declared.result.Result.the-variants.{Ok, Err}
+use Rattle.std.specs.declared.result.Result.the-variants.{Ok}
 use Rattle.sheet.specs.declared.node.Node.{Node}
-use Rattle.sheet.specs.declared.node.Node.the-variants as node
-use Rattle.reader.specs.declared.token.Kind.{Kind}
 use Rattle.reader.specs.declared.token.Kind.the-variants.{Open, Close, Plus, Star, Variable}
 use Rattle.reader.specs.declared.token.Token.{Token}
 use Rattle.reader.specs.declared.reader.Sign.{Sign}
 use Rattle.reader.specs.declared.reader.Held.{Held}
 use Rattle.reader.specs.declared.reader.Held.the-variants.{Nothing, One, Several}
 use Rattle.reader.specs.Cutting.{cut, piece, judge, number, variable, sign, token-at, blanks}
-use Rattle.reader.specs.Reading.{Outcome, ended, Known, Within, add-part, pair, read-term}
-use Rattle.reader.specs.Faults.{Row}
+use Rattle.reader.specs.Reading.{ended, Known, Within, add-part, pair, read-term}
 use Rattle.reader.specs.Grammar.{term}
 use Rattle.reader.proofs.Placing.{put-there, placed-there, placed-grows}
 use Rattle.reader.proofs.Sound.{same, several-is, term-sound}

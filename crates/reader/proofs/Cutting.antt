@@ -1,8 +1,8 @@
 -- What is cut from a text.
-use mathlib.Core.Path.{_≡_, refl, sym, ap, subst, _∙_}
+use mathlib.Core.Path.{_≡_, sym, ap, subst, _∙_}
 use mathlib.Core.Bool.{Bool, true, false, cond}
 use mathlib.Core.List.{List, [], _∷_}
-use Prim.Native.Nat.{ℕ, _+_, _-_, _<_, _≤_}
+use Prim.Native.Nat.{ℕ, _+_, _-_, _<_}
 use native.Mathlib.Omega.{arith}
 use lib.ListN.{length, getD, take, drop}
 use Rattle.std.specs.Slices.{found}
@@ -15,8 +15,7 @@ use Rattle.std.specs.declared.option.Option.the-variants.{Some, None}
 use Rattle.std.specs.declared.result.Result.{Result}
 use Rattle.std.specs.declared.result.Result.the-variants.{Ok, Err}
 use Rattle.reader.specs.declared.token.Token.{Token}
-use Rattle.reader.specs.declared.fault.Fault.{Fault}
-use Rattle.reader.specs.Faults.{Row, told}
+use Rattle.reader.specs.Faults.{Row}
 use Rattle.reader.specs.Cutting.{blanks, size, judge, piece, cut, behind}
 
 -- where a token is cut, it takes a byte at least

@@ -1,12 +1,11 @@
 -- The law of reading holds.
 use mathlib.Core.Path.{_≡_, refl, sym, ap, subst, _∙_}
 use mathlib.Core.List.{List, [], _∷_, _++_}
-use Prim.Native.Nat.{ℕ, _+_, _<_, _≤_}
+use Prim.Native.Nat.{ℕ, _+_, _≤_}
 use native.Mathlib.Omega.{arith}
 use lib.ListN.{length}
 use Rattle.std.specs.declared.result.Result.the-variants.{Ok, Err}
 use Rattle.free_lattice.specs.Terms.{Term, subterms}
-use Rattle.sheet.specs.declared.node.Node.{Node}
 use Rattle.sheet.specs.Nodes.{Grounded, Distinct, terms, term-at}
 use Rattle.sheet.specs.State.{State, count}
 use Rattle.sheet.proofs.Terms.{terms-length}

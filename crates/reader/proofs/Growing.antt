@@ -2,10 +2,9 @@
 use mathlib.Core.Path.{_≡_, refl, sym, ap, subst, _∙_}
 use mathlib.Core.Bool.{Bool, true, false, cond}
 use mathlib.Core.List.{List, [], _∷_, _++_, append-nil, append-assoc}
-use Prim.Native.Nat.{ℕ, zero, suc, _+_, _-_, _<_, _≤_}
-use lib.ListN.{length, take, drop}
+use Prim.Native.Nat.{ℕ, zero, suc, _+_, _-_}
+use lib.ListN.{length}
 use lib.Dec.{ltb}
-use Rattle.std.proofs.shelf.Lists.{take-at}
 use Rattle.std.specs.declared.option.Option.{Option}
 use Rattle.std.specs.declared.option.Option.the-variants.{Some, None}
 use Rattle.std.specs.declared.result.Result.{Result}
@@ -23,7 +22,7 @@ use Rattle.sheet.specs.Enter.{grown}
 use Rattle.sheet.specs.State.{State}
 use Rattle.reader.specs.declared.fault.Fault.{Fault}
 use Rattle.reader.specs.Faults.{Row, told}
-use Rattle.reader.specs.Cutting.{cut, behind}
+use Rattle.reader.specs.Cutting.{behind}
 use Rattle.reader.specs.Reading.{Outcome, ended, bind, refuse, next, or-end, due, enter-at, sign-of, read-sign, pair, add-part, close-list, is-close, read-parts, read-list, by-kind, read-term, read-whole, finished}
 use Rattle.std.specs.Results.{isErr}
 use native.Mathlib.Omega.{arith}

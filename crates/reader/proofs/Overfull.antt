@@ -1,9 +1,9 @@
 -- A written term whose nodes do not fit is refused as the sheet is full.
-use mathlib.Core.Path.{_≡_, refl, sym, ap, ap₂, subst, subst₂, _∙_}
-use mathlib.Core.Bool.{Bool, true, false, cond}
-use mathlib.Core.Logic.{_⊎_, inl, inr, ⊎-elim}
+use mathlib.Core.Path.{_≡_, refl, sym, ap, subst, _∙_}
+use mathlib.Core.Bool.{false, cond}
+use mathlib.Core.Logic.{_⊎_, ⊎-elim}
 use mathlib.Core.List.{List, [], _∷_, _++_, append-nil, append-assoc}
-use Prim.Native.Nat.{ℕ, zero, suc, max, _+_, _-_, _<_, _≤_}
+use Prim.Native.Nat.{ℕ, zero, suc, _+_, _-_, _<_, _≤_}
 use native.Mathlib.Omega.{arith}
 use lib.Dec.{ltb}
 use lib.ListN.{length, drop, length-append, length-drop}
@@ -11,7 +11,6 @@ use Rattle.std.proofs.shelf.Lists.{length-push}
 use Rattle.std.proofs.shelf.Ways.{tells}
 use Rattle.std.specs.declared.option.Option.{Option}
 use Rattle.std.specs.declared.option.Option.the-variants.{Some, None}
-use Rattle.std.specs.declared.result.Result.{Result}
 use Rattle.std.specs.declared.result.Result.the-variants.{Ok, Err}
 use Rattle.free_lattice.specs.Terms.{Term}
 use Rattle.sheet.specs.declared.node.Node.{Node}
@@ -20,20 +19,19 @@ use Rattle.sheet.specs.Nodes.{find}
 use Rattle.sheet.specs.Refused.{refused}
 use Rattle.sheet.specs.Enter.{numbered, grown}
 use Rattle.reader.specs.declared.token.Kind.{Kind}
-use Rattle.reader.specs.declared.token.Kind.the-variants.{Open, Close, Plus, Star, Variable}
+use Rattle.reader.specs.declared.token.Kind.the-variants.{Close, Variable}
 use Rattle.reader.specs.declared.token.Token.{Token}
 use Rattle.reader.specs.declared.reader.Sign.{Sign}
-use Rattle.reader.specs.declared.reader.Sign.the-variants as sign
 use Rattle.reader.specs.declared.reader.Held.{Held}
 use Rattle.reader.specs.declared.reader.Held.the-variants.{Nothing, One, Several}
-use Rattle.reader.specs.Faults.{Row, by-sheet}
-use Rattle.reader.specs.Cutting.{cut, behind, blanks}
-use Rattle.reader.specs.Reading.{Outcome, ended, bind, refuse, next, or-end, due, enter-at, placed-at, sign-of, read-sign, pair, several, add-part, close-list, is-close, read-parts, read-list, by-kind, read-term, read-whole}
+use Rattle.reader.specs.Faults.{by-sheet}
+use Rattle.reader.specs.Cutting.{behind, blanks}
+use Rattle.reader.specs.Reading.{Outcome, ended, bind, refuse, next, or-end, enter-at, placed-at, sign-of, pair, several, add-part, close-list, is-close, read-parts, read-list, by-kind, read-term, read-whole}
 use Rattle.reader.specs.Grammar.{Tree, Parts, leaf, list, two, more, combine, term, folded, sign-kind, tokens, all-tokens, depth, depths, Spelled, Written}
 use Rattle.reader.proofs.Spelling.{next-cut}
 use Rattle.reader.proofs.Reading.{due-some}
-use Rattle.reader.proofs.Placing.{Place, put-by, put, placed, combined, placed-grows}
-use Rattle.reader.proofs.Complete.{head-of, rest-of, split, no-close, turn, Complete, CompleteParts, how-many, term-complete, parts-complete, few-parts, spelled-length, signed-by}
+use Rattle.reader.proofs.Placing.{Place, put-by, put, placed, combined}
+use Rattle.reader.proofs.Complete.{head-of, rest-of, split, no-close, turn, how-many, term-complete, parts-complete, few-parts, spelled-length, signed-by}
 
 pub record Fails {A : Type 0} (o : Outcome A) : Type 0 where
   pub begins : ℕ

@@ -4,20 +4,19 @@
 --   Good           what was placed is there, and its node has the term
 --   Added          placing adds exactly the terms that were missing
 use mathlib.Core.Path.{_≡_, refl, sym, ap, ap₂, subst, _∙_}
-use mathlib.Core.Bool.{Bool, true, false}
+use mathlib.Core.Bool.{true}
 use mathlib.Core.Logic.{_⊎_, inl, inr, ⊎-elim}
 use mathlib.Core.List.{List, [], _∷_, _++_, append-nil, append-assoc}
 use Prim.Native.Nat.{ℕ, zero, suc, _+_, _<_, _≤_}
 use native.Mathlib.Omega.{arith}
 use lib.ListN.{length, getD, length-append}
-use Rattle.std.proofs.shelf.Lists.{length-push, getD-push}
+use Rattle.std.proofs.shelf.Lists.{length-push}
 use Rattle.std.specs.declared.option.Option.{Option}
 use Rattle.std.specs.declared.option.Option.the-variants.{Some, None}
 use Rattle.free_lattice.specs.Terms.{Term, var, meet, join, subterms}
 use Rattle.sheet.specs.declared.node.Node.{Node}
 use Rattle.sheet.specs.declared.node.Node.the-variants as node
 use Rattle.sheet.specs.Nodes.{find, fits, node-at, Grounded, Distinct, term-of, terms, term-at}
-use Rattle.sheet.specs.Enter.{Entered}
 use Rattle.sheet.proofs.Nodes.{found, not-found, grounded-more, distinct-more}
 use Rattle.sheet.proofs.Terms.{terms-length, terms-push, term-stays, term-is, parts-below, below-fits, code-fits, fits-more}
 use Rattle.sheet.proofs.Enter.{entered-old, entered-new}

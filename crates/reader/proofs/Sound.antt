@@ -1,11 +1,11 @@
 -- What is read is written: a granted text is a written term, and its nodes are those of that term.
-use mathlib.Core.Path.{_≡_, refl, sym, ap, ap₂, subst, subst₂, _∙_}
+use mathlib.Core.Path.{_≡_, refl, sym, ap, subst, subst₂, _∙_}
 use mathlib.Core.Bool.{Bool, true, false, cond}
 use mathlib.Core.List.{List, [], _∷_, _++_, append-nil, append-assoc}
-use Prim.Native.Nat.{ℕ, zero, suc, max, _+_, _-_, _<_, _≤_}
+use Prim.Native.Nat.{ℕ, zero, suc, _+_, _-_, _<_, _≤_}
 use native.Mathlib.Omega.{arith}
 use lib.Dec.{ltb}
-use lib.ListN.{length, drop, length-append, length-drop}
+use lib.ListN.{length, drop}
 use Rattle.std.proofs.shelf.Lists.{length-push}
 use Rattle.std.proofs.shelf.Ways.{tells}
 use Rattle.std.specs.declared.option.Option.{Option}
@@ -26,11 +26,11 @@ use Rattle.reader.specs.declared.reader.Sign.the-variants as sign
 use Rattle.reader.specs.declared.reader.Held.{Held}
 use Rattle.reader.specs.declared.reader.Held.the-variants.{Nothing, One, Several}
 use Rattle.reader.specs.Faults.{Row}
-use Rattle.reader.specs.Cutting.{cut, behind, blanks}
+use Rattle.reader.specs.Cutting.{cut, behind}
 use Rattle.reader.specs.Reading.{Outcome, ended, bind, refuse, next, or-end, due, enter-at, placed-at, sign-of, read-sign, pair, several, add-part, close-list, is-close, read-parts, read-list, by-kind, read-term, read-whole}
 use Rattle.reader.specs.Grammar.{Tree, Parts, leaf, list, two, more, combine, term, folded, sign-kind, tokens, all-tokens, depth, depths, Spelled, Written}
 use Rattle.reader.proofs.Spelling.{next-some, next-none}
-use Rattle.reader.proofs.Placing.{Place, put-by, put, placed, combined}
+use Rattle.reader.proofs.Placing.{put-by, put, placed, combined}
 
 -- what an outcome tells
 err-clash : {A : Type 0} (e : Row) (a : A) (ns ns′ : List Node) (at at′ : ℕ) → _≡_ {A = Outcome A} (ended (Err e) ns at) (ended (Ok a) ns′ at′) → ⊥

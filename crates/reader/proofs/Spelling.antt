@@ -1,14 +1,14 @@
 -- What the cutter cuts is what the text spells.
 use mathlib.Core.Path.{_≡_, refl, sym, ap, subst, subst₂, _∙_}
 use mathlib.Core.Bool.{Bool, true, false, cond}
-use mathlib.Core.Logic.{_⊎_, inl, inr, ⊎-elim}
-use mathlib.Core.List.{List, [], _∷_, _++_}
-use Prim.Native.Nat.{ℕ, zero, suc, _+_, _-_, _*_, _<_, _≤_}
+use mathlib.Core.Logic.{_⊎_, ⊎-elim}
+use mathlib.Core.List.{List, [], _∷_}
+use Prim.Native.Nat.{ℕ, zero, suc, _+_, _-_, _*_}
 use native.Mathlib.Nat.{zero-add, suc-add}
 use native.Mathlib.Numerals.{one-add}
 use native.Mathlib.Omega.{arith}
 use lib.Dec.{eqb}
-use lib.ListN.{length, take, drop}
+use lib.ListN.{take, drop}
 use borrow.Author.Tests.{eqb-true}
 use Rattle.std.specs.Text.{asciiDigit, asciiLower, within}
 use Rattle.std.specs.shelf.Lists.{leading}
@@ -24,7 +24,7 @@ use Rattle.reader.specs.declared.token.Kind.the-variants.{Open, Close, Plus, S
 use Rattle.reader.specs.declared.token.Token.{Token}
 use Rattle.reader.specs.Faults.{Row}
 use Rattle.reader.specs.Cutting.{blank, blanks, number, sign, token-at, variable, size, judge, piece, cut, behind}
-use Rattle.reader.specs.Grammar.{Between, Letter, Digit, Leading, Spelled, end, space, opened, closed, star, plus, letter, digit, digits}
+use Rattle.reader.specs.Grammar.{Between, Letter, Spelled, end, space, opened, closed, star, plus, letter, digit, digits}
 
 between : (lo hi c : ℕ) → within lo hi c ≡ true → Between lo hi c
 between lo hi c h = (grind (arith, tells), grind (arith, tells))

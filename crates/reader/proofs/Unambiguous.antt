@@ -1,19 +1,19 @@
 -- A text is written in one way only.
-use mathlib.Core.Path.{_≡_, refl, sym, ap, ap₂, subst, _∙_}
-use mathlib.Core.Bool.{Bool, true, false, cond}
+use mathlib.Core.Path.{_≡_, refl, sym, ap, ap₂, _∙_}
+use mathlib.Core.Bool.{Bool, true, false}
 use mathlib.Core.List.{List, [], _∷_, _++_, append-nil, append-assoc}
-use Prim.Native.Nat.{ℕ, zero, suc, _+_, _<_, _≤_}
+use Prim.Native.Nat.{ℕ, _+_, _≤_}
 use native.Mathlib.Omega.{arith}
-use lib.ListN.{length, length-append}
+use lib.ListN.{length}
 use Rattle.std.proofs.shelf.Lists.{length-push, same-from-push}
 use Rattle.reader.specs.declared.token.Kind.{Kind}
-use Rattle.reader.specs.declared.token.Kind.the-variants.{Open, Close, Plus, Star, Variable}
+use Rattle.reader.specs.declared.token.Kind.the-variants.{Open, Close}
 use Rattle.reader.specs.declared.reader.Sign.{Sign}
 use Rattle.reader.specs.declared.reader.Sign.the-variants as sign
 use Rattle.reader.specs.Reading.{is-close}
 use Rattle.reader.specs.Grammar.{Tree, Parts, leaf, list, two, more, sign-kind, tokens, all-tokens, Spelled, Written}
 use Rattle.reader.proofs.Spelling.{cuts, past, none-clash, token-kind}
-use Rattle.reader.proofs.Complete.{head-of, rest-of, split, no-close}
+use Rattle.reader.proofs.Complete.{head-of, split, no-close}
 
 same-spelled : (ks ls : List Kind) (bs : List ℕ) → Spelled bs ks → Spelled bs ls → ks ≡ ls
 same-spelled [] [] bs s r = refl

@@ -1,14 +1,13 @@
 -- What entering a node answers in each case, and what a grant means.
-use mathlib.Core.Path.{_≡_, refl, sym, ap, subst, _∙_}
+use mathlib.Core.Path.{_≡_, refl, sym, ap, _∙_}
 use mathlib.Core.Bool.{Bool, true, false, cond, _&&_}
 use mathlib.Core.List.{List, [], _∷_, _++_}
-use Prim.Native.Nat.{ℕ, _+_, _<_, _≤_}
+use Prim.Native.Nat.{ℕ, _+_, _<_}
 use native.Mathlib.Omega.{arith}
 use lib.Dec.{ltb, leb}
 use lib.ListN.{length, getD}
 use Rattle.std.proofs.shelf.Lists.{length-push, getD-push, getD-append-left}
-use Rattle.std.proofs.shelf.Tests.{lt-ltb, le-ltb}
-use Rattle.std.proofs.shelf.Ways.{tells}
+use Rattle.std.proofs.shelf.Tests.{lt-ltb}
 use Rattle.std.specs.declared.option.Option.{Option}
 use Rattle.std.specs.declared.option.Option.the-variants.{Some, None}
 use Rattle.std.specs.declared.result.Result.{Result}
@@ -16,7 +15,7 @@ use Rattle.std.specs.declared.result.Result.the-variants.{Ok, Err}
 use Rattle.free_lattice.specs.Terms.{var}
 use Rattle.sheet.specs.declared.node.Node.{Node}
 use Rattle.sheet.specs.declared.node.Node.the-variants.{Variable, Meet, Join}
-use Rattle.sheet.specs.Nodes.{find, fits, node-at, Grounded, terms, term-of}
+use Rattle.sheet.specs.Nodes.{find, fits, Grounded, terms, term-of}
 use Rattle.sheet.specs.Refused.{Refused, refused}
 use Rattle.sheet.specs.State.{State, count}
 use Rattle.sheet.specs.Enter.{tested, present, and-then, judged, numbered, grown, entering-by, entering, Entered}

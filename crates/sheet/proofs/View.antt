@@ -1,8 +1,8 @@
 -- What is always true of a sheet, in the words of its state.
 use mathlib.Core.Path.{_≡_, sym, subst, _∙_}
-use Prim.Native.Nat.{ℕ, _≤_}
+use Prim.Native.Nat.{_≤_}
 use native.Mathlib.Omega.{arith}
-use lib.ListN.{length, length-map}
+use lib.ListN.{length-map}
 use Rattle.std.specs.Of.Vec.{vec-items, vec-len}
 use Rattle.sheet.specs.declared.node.Record.{Record}
 use Rattle.sheet.specs.declared.sheet.Sheet.{Sheet}

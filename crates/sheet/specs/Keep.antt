@@ -4,7 +4,6 @@ use Prim.Native.Nat.{ℕ, max}
 use lib.Dec.{ltb}
 use lib.ListN.{take}
 use Rattle.std.specs.declared.option.Option.the-variants.{None}
-use Rattle.sheet.specs.Records.{Memo}
 use Rattle.sheet.specs.State.{State}
 
 -- the first n nodes, and the pairs of them that are settled

@@ -1,5 +1,4 @@
-pub mod Numbers
-pub mod Trimming
-pub mod Splitting
-pub mod Cutting
+pub mod Numerals
+pub mod SplitWords
+pub mod SplitLines
 pub mod Transcripts

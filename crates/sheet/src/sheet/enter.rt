@@ -1,6 +1,5 @@
 // A blank sheet, and entering nodes on it.
 ghost use mathlib.Core.Path.{_≡_};
-ghost use Rattle.std.specs.Of.Vec.{vec-items};
 ghost use Rattle.std.specs.Vec.{made};
 ghost use Rattle.sheet.specs.Nodes.{find};
 ghost use Rattle.sheet.specs.Refused.{told};

@@ -1,7 +1,6 @@
 use mathlib.Core.Path.{_≡_}
 use Prim.Native.Nat.{_+_}
 use lib.ListN.{drop}
-use Rattle.std.specs.Text.{asciiDigit}
 use Rattle.std.specs.shelf.Lists.{leading}
 use Rattle.reader.specs.Cutting.{blank}
 use Rattle.reader.proofs.cutter.blanks.Given as given

@@ -3,7 +3,6 @@ use Prim.Native.Nat.{_+_}
 use lib.ListN.{drop}
 use Rattle.std.specs.Text.{asciiDigit}
 use Rattle.std.specs.shelf.Lists.{leading}
-use Rattle.reader.specs.Cutting.{blank}
 use Rattle.reader.proofs.cutter.digits.Given as given
 
 abbrev pub Inv-loop-n : given.InvT-loop-n

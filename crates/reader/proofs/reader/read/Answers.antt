@@ -1,5 +1,4 @@
-use mathlib.Core.Path.{_≡_, refl, sym, ap, subst, _∙_}
-use Rattle.std.specs.declared.result.Result.{Result}
+use mathlib.Core.Path.{_≡_, sym, ap, subst, _∙_}
 use Rattle.sheet.specs.State.{count}
 use Rattle.sheet.specs.Keep.{kept}
 use Rattle.sheet.specs.View.{state, nodes-of}

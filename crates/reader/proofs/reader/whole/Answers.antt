@@ -1,13 +1,10 @@
-use mathlib.Core.Path.{_≡_, refl, sym, ap, _∙_}
-use mathlib.Core.List.{List}
-use Prim.Native.Nat.{ℕ}
+use mathlib.Core.Path.{refl, sym, ap, _∙_}
 use lib.ListN.{drop}
 use Rattle.std.specs.declared.option.Option.the-variants.{Some, None}
 use Rattle.std.specs.declared.result.Result.the-variants.{Ok, Err}
 use Rattle.std.proofs.shelf.Results.{err-from-errBy}
 use Rattle.sheet.specs.View.{nodes-of}
 use Rattle.reader.specs.Faults.{row, told}
-use Rattle.reader.specs.Reading.{ended, read-term}
 use Rattle.reader.proofs.Reading.{Took, took, ended-eq, whole-term, whole-last}
 use Rattle.reader.proofs.Bounds.{cut-known}
 use Rattle.reader.proofs.reader.whole.Needs as need

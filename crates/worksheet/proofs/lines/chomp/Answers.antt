@@ -1,5 +1,5 @@
 use borrow.Author.Needs.{needs}
-use Rattle.worksheet.proofs.Cutting.{with-return, without-return}
+use Rattle.worksheet.proofs.SplitLines.{with-return, without-return}
 use Rattle.worksheet.proofs.lines.chomp.Needs as need
 
 pub returns-in-13 : need.returns-in-13

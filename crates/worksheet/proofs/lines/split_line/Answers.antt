@@ -2,7 +2,7 @@ use mathlib.Core.Path.{sym, ap, _∙_}
 use borrow.Author.Needs.{needs}
 use Rattle.worksheet.specs.Words.{spread}
 use Rattle.worksheet.specs.Lines.{lines-of}
-use Rattle.worksheet.proofs.Cutting.{lines-first, none-first, last-first, fed-first}
+use Rattle.worksheet.proofs.SplitLines.{lines-first, none-first, last-first, fed-first}
 use Rattle.worksheet.proofs.lines.split_line.Needs as need
 
 pub returns-then-is-empty : need.returns-then-is-empty

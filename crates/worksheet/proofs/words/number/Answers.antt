@@ -3,7 +3,7 @@ use native.Mathlib.Omega.{arith}
 use borrow.Author.Needs.{needs}
 use Rattle.std.specs.declared.option.Option.the-variants.{Some, None}
 use Rattle.std.proofs.shelf.Lists.{drop-all}
-use Rattle.worksheet.proofs.Numbers.{figures, figures-more, numeral-figures}
+use Rattle.worksheet.proofs.Numerals.{figures, figures-more, numeral-figures}
 use Rattle.worksheet.proofs.words.number.Needs as need
 
 pub returns-in-Break-n : need.returns-in-Break-n

@@ -1,6 +1,6 @@
 use mathlib.Core.Path.{_≡_}
 use lib.ListN.{drop}
-use Rattle.worksheet.proofs.Numbers.{figures}
+use Rattle.worksheet.proofs.Numerals.{figures}
 use Rattle.worksheet.proofs.words.number.Given as given
 
 abbrev pub Inv-loop-b : given.InvT-loop-b

@@ -1,7 +1,7 @@
 use mathlib.Core.Path.{sym, ap, _∙_}
 use borrow.Author.Needs.{needs}
 use Rattle.worksheet.specs.Words.{first-of, words-of, spread}
-use Rattle.worksheet.proofs.Splitting.{words-first, none-first, split-first}
+use Rattle.worksheet.proofs.SplitWords.{words-first, none-first, split-first}
 use Rattle.worksheet.proofs.words.split_word.Needs as need
 
 pub returns-then-is-empty : need.returns-then-is-empty

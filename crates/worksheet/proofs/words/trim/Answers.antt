@@ -1,6 +1,6 @@
 use mathlib.Core.Path.{sym, _∙_}
 use borrow.Author.Needs.{needs}
-use Rattle.worksheet.proofs.Trimming.{past-space, at-word}
+use Rattle.worksheet.proofs.SplitWords.{past-space, at-word}
 use Rattle.worksheet.proofs.words.trim.Needs as need
 
 pub loop-rest-again : need.loop-rest-again

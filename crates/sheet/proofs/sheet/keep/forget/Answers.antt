@@ -1,7 +1,7 @@
-use mathlib.Core.Path.{_≡_, refl, sym, ap, _∙_}
-use mathlib.Core.List.{List, _++_, map, append-nil}
+use mathlib.Core.Path.{refl, ap, _∙_}
+use mathlib.Core.List.{_++_, map, append-nil}
 use native.Mathlib.Omega.{arith}
-use lib.ListN.{length, getD, set, take, drop}
+use lib.ListN.{getD, set, take}
 use Rattle.std.proofs.shelf.Lists.{take-at, take-all, drop-all, getD-default}
 use Rattle.std.proofs.shelf.Edits.{map-over-more}
 use Rattle.sheet.specs.declared.node.Node.the-variants.{Variable}

@@ -1,14 +1,28 @@
 -- A line's first word, and its other words.
-use mathlib.Core.Path.{_≡_, refl, ap, _∙_}
+use mathlib.Core.Path.{_≡_, refl, ap, _∙_, sym}
 use mathlib.Core.Bool.{Bool, true, false}
 use mathlib.Core.List.{List, [], _∷_, _++_, append-nil, append-assoc}
-use Prim.Native.Nat.{ℕ, _+_, _<_}
+use Prim.Native.Nat.{ℕ, _+_, _<_, _-_}
 use native.Mathlib.Numerals.{one-add}
 use native.Mathlib.Omega.{arith}
 use lib.Dec.{eqb}
-use lib.ListN.{length, take, drop}
+use lib.ListN.{length, take, drop, getD}
+use borrow.Author.Tests.{eq-eqb}
 use Rattle.std.specs.declared.option.Option.the-variants.{Some, None}
-use Rattle.worksheet.specs.Words.{reach, first-of, first-word, unless-empty, words-behind, words-of, spread}
+use Rattle.std.proofs.shelf.Lists.{take-rest}
+use Rattle.std.proofs.shelf.Ways.{tells}
+use Rattle.worksheet.specs.Words.{reach, first-of, first-word, unless-empty, words-behind, words-of, spread, trimmed}
+
+-- the spaces before the first word
+pub past-space : (xs : List ℕ) → 0 < length xs → getD xs 0 0 ≡ 32 → trimmed (take (length xs - 1) (drop 1 xs)) ≡ trimmed xs
+past-space [] h e = absurd (omega arith)
+past-space (b ∷ bs) h e = ap trimmed (take-rest (b ∷ bs) 1) ∙ sym (rw (eq-eqb b 32 e))
+
+pub at-word : (xs : List ℕ) → (0 < length xs → getD xs 0 0 ≡ 32 → ⊥) → trimmed xs ≡ xs
+at-word [] h = refl
+at-word (b ∷ bs) h =
+    let off : eqb b 32 ≡ false = let no : b ≡ 32 → ⊥ = h (omega arith) in grind (arith, tells) in
+    rw off
 
 -- a word that is begun goes on to the next space
 begun-on : (w : List ℕ) (b : ℕ) (bs : List ℕ) (s : Bool) → eqb b 32 ≡ s
