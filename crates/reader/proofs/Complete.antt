@@ -157,7 +157,7 @@ more-complete p c cp cc′ left deep fuel text s ns at ks sp fit =
       spelled = y .spelled;
     }
 
-pub spelled-length : {bs : List ℕ} {ks : List Kind} → Spelled bs ks → length ks ≤ length bs
+spelled-length : {bs : List ℕ} {ks : List Kind} → Spelled bs ks → length ks ≤ length bs
 spelled-length Spelled.end = omega arith
 spelled-length (Spelled.space s) = omega (arith, spelled-length s)
 spelled-length (Spelled.opened s) = omega (arith, spelled-length s)
@@ -172,34 +172,50 @@ some-tokens : (t : Tree) → 1 ≤ length (tokens t)
 some-tokens (leaf c) = omega arith
 some-tokens (list s p) = omega arith
 
-pub few-parts : (p : Parts) → how-many p ≤ length (all-tokens p)
+few-parts : (p : Parts) → how-many p ≤ length (all-tokens p)
 few-parts (two a b) = omega (arith, some-tokens a, some-tokens b, length-append (tokens a) (tokens b))
 few-parts (more p c) = omega (arith, few-parts p, some-tokens c, length-append (all-tokens p) (tokens c))
 
-pub signed-by : (s : Sign) (t : Token) (ns : List Node) (at : ℕ) → sign-of t ns at (sign-kind s) ≡ ended (Ok s) ns at
+signed-by : (s : Sign) (t : Token) (ns : List Node) (at : ℕ) → sign-of t ns at (sign-kind s) ≡ ended (Ok s) ns at
 signed-by sign.Meet t ns at = refl
 signed-by sign.Join t ns at = refl
 
-list-complete : (s : Sign) (p : Parts) → CompleteParts p → (left : ℕ) → depths p ≤ left → (text : List ℕ) (ns : List Node) (at : ℕ) (ks : List Kind) → Spelled (drop at text) (sign-kind s ∷ ((all-tokens p ++ Close ∷ []) ++ ks))
-    → length (placed ns (folded p s) .nodes) ≤ 60 → Done (read-list (read-term left text) text ns at) (placed ns (folded p s)) text ks
-list-complete s p cp left deep text ns at ks sp fit =
+-- a list that is written, behind its sign: what is left of the text, with fuel for all its parts and one more turn
+pub record Opened (left : ℕ) (text : List ℕ) (s : Sign) (p : Parts) (ns : List Node) (at : ℕ) (ks : List Kind) : Type 0 where
+  pub fuel : ℕ
+  pub place : ℕ
+  pub is : read-list (read-term left text) text ns at ≡ read-parts (how-many p + suc fuel) (read-term left text) text s Nothing ns place
+  pub spelled : Spelled (drop place text) (all-tokens p ++ Close ∷ ks)
+
+pub list-opened : (s : Sign) (p : Parts) (left : ℕ) (text : List ℕ) (ns : List Node) (at : ℕ) (ks : List Kind) → Spelled (drop at text) (sign-kind s ∷ ((all-tokens p ++ Close ∷ []) ++ ks)) → Opened left text s p ns at ks
+list-opened s p left text ns at ks sp =
     let at₁ : ℕ = behind at (drop at text) in
     let t : Token = record { kind = sign-kind s; place = at + blanks (drop at text) } in
     let n = next-cut text at (sign-kind s ∷ ((all-tokens p ++ Close ∷ []) ++ ks)) sp in
     let sp₁ : Spelled (drop at₁ text) (all-tokens p ++ Close ∷ ks) = subst (λ l. Spelled (drop at₁ text) l) (append-assoc (all-tokens p) (Close ∷ []) ks) (n .1) in
-    let room : how-many p ≤ length text = omega (arith, few-parts p, spelled-length sp₁, length-append (all-tokens p) (Close ∷ ks), length-drop at₁ text) in
-    let fuel : ℕ = length text - how-many p in
-    let enough : suc (length text) ≡ how-many p + suc fuel = omega arith in
-    let g = cp left deep (suc fuel) text s ns at₁ (Close ∷ ks) sp₁ fit in
+    let few : how-many p ≤ length text = omega (arith, few-parts p, spelled-length sp₁, length-append (all-tokens p) (Close ∷ ks), length-drop at₁ text) in
+    let enough : suc (length text) ≡ how-many p + suc (length text - how-many p) = omega arith in
+    record {
+      fuel = length text - how-many p;
+      place = at₁;
+      is = ap (λ o. bind o (λ s′. read-parts (suc (length text)) (read-term left text) text s′ Nothing)) (due-some text ns at (λ t′ ns′ at′. sign-of t′ ns′ at′ (t′ .kind)) t (n .0) ∙ signed-by s t ns at₁)
+          ∙ ap (λ f. read-parts f (read-term left text) text s Nothing ns at₁) enough;
+      spelled = sp₁;
+    }
+
+list-complete : (s : Sign) (p : Parts) → CompleteParts p → (left : ℕ) → depths p ≤ left → (text : List ℕ) (ns : List Node) (at : ℕ) (ks : List Kind) → Spelled (drop at text) (sign-kind s ∷ ((all-tokens p ++ Close ∷ []) ++ ks))
+    → length (placed ns (folded p s) .nodes) ≤ 60 → Done (read-list (read-term left text) text ns at) (placed ns (folded p s)) text ks
+list-complete s p cp left deep text ns at ks sp fit =
+    let o = list-opened s p left text ns at ks sp in
+    let g = cp left deep (suc (o .fuel)) text s ns (o .place) (Close ∷ ks) (o .spelled) fit in
     let w : Place = placed ns (folded p s) in
     let at₂ : ℕ = g .place in
     let t₂ : Token = record { kind = Close; place = at₂ + blanks (drop at₂ text) } in
     let m = next-cut text at₂ (Close ∷ ks) (g .spelled) in
     record {
       place = behind at₂ (drop at₂ text);
-      is = ap (λ o. bind o (λ s′. read-parts (suc (length text)) (read-term left text) text s′ Nothing)) (due-some text ns at (λ t′ ns′ at′. sign-of t′ ns′ at′ (t′ .kind)) t (n .0) ∙ signed-by s t ns at₁)
-          ∙ ap (λ f. read-parts f (read-term left text) text s Nothing ns at₁) enough ∙ g .is
-          ∙ due-some text (w .nodes) at₂ (λ t′ ns′ at′. cond (is-close (t′ .kind)) (ended (close-list (Several (w .number)) (t′ .place)) ns′ at′) (bind (read-term left text t′ ns′ at′) (λ part ns″ at″. bind (add-part s (Several (w .number)) part (t′ .place) ns″ at″) (λ held′. read-parts fuel (read-term left text) text s held′)))) t₂ (m .0);
+      is = o .is ∙ g .is
+          ∙ due-some text (w .nodes) at₂ (λ t′ ns′ at′. cond (is-close (t′ .kind)) (ended (close-list (Several (w .number)) (t′ .place)) ns′ at′) (bind (read-term left text t′ ns′ at′) (λ part ns″ at″. bind (add-part s (Several (w .number)) part (t′ .place) ns″ at″) (λ held′. read-parts (o .fuel) (read-term left text) text s held′)))) t₂ (m .0);
       spelled = m .1;
     }
 

@@ -16,7 +16,7 @@ use Rattle.reader.specs.declared.reader.Sign.the-variants as sign
 use Rattle.reader.specs.Reading.{Outcome, ended, read-whole, finished, reading, Known}
 use Rattle.reader.specs.Grammar.{Tree, Parts, leaf, list, two, more, combine, term, folded, tokens, all-tokens, Spelled, end, space, opened, closed, star, plus, letter, digit, digits, Written}
 use Rattle.reader.specs.Exact.{Adds, Stands, Taken, Exact}
-use Rattle.reader.proofs.Placing.{placed, Coded, placed-good, placed-adds}
+use Rattle.reader.proofs.Placing.{placed, Coded, placed-good}
 use Rattle.reader.proofs.Sound.{whole-sound}
 use Rattle.reader.proofs.Complete.{whole-complete}
 use Rattle.reader.proofs.Overfull.{whole-over}
@@ -65,15 +65,14 @@ module _ (text : List ℕ) (S : State) (few : count S ≤ 60) (grounded : Ground
       let j-is : j ≡ k = cc in
       let w = whole-sound text (S .nodes) few j ns at e in
       let t : Term = term (w .tree) in
-      let coded = written-coded text (w .tree) (w .written) in
-      let g = placed-good t coded (S .nodes) grounded in
+      let g = placed-good t (written-coded text (w .tree) (w .written)) (S .nodes) grounded distinct in
       let number : k ≡ placed (S .nodes) t .number = sym j-is ∙ w .number in
       record {
         tree = w .tree;
         written = w .written;
         there = omega (arith, g .there, number, ap length (w .nodes));
         means = ap (λ l. term-at l k) (w .nodes) ∙ ap (term-at (placed (S .nodes) t .nodes)) number ∙ g .means;
-        adds = subst (λ l. Adds (terms (S .nodes)) (subterms t) (terms l)) (sym (w .nodes)) (placed-adds t coded (S .nodes) grounded distinct .adds);
+        adds = subst (λ l. Adds (terms (S .nodes)) (subterms t) (terms l)) (sym (w .nodes)) (g .adds);
         fits = w .few;
       }
 
@@ -83,7 +82,7 @@ module _ (text : List ℕ) (S : State) (few : count S ≤ 60) (grounded : Ground
       let long = terms-length (p .nodes) in
       record {
         after = terms (p .nodes);
-        adds = placed-adds (term t) (written-coded text t w) (S .nodes) grounded distinct .adds;
+        adds = placed-good (term t) (written-coded text t w) (S .nodes) grounded distinct .adds;
         fits = λ fit. (p .number, ap (λ o. finished S o .1) (whole-complete text (S .nodes) t w (omega (arith, long)) .1));
         full = λ over. let f = whole-over text (S .nodes) t w few (omega (arith, long)) in (f .begins, ap (λ o. finished S o .1) (f .is));
       }

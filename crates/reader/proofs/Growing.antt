@@ -19,13 +19,9 @@ use Rattle.reader.specs.declared.reader.Held.{Held}
 use Rattle.reader.specs.declared.reader.Held.the-variants.{Nothing, One, Several}
 use Rattle.sheet.specs.Nodes.{find}
 use Rattle.sheet.specs.Enter.{grown}
-use Rattle.sheet.specs.State.{State}
-use Rattle.reader.specs.declared.fault.Fault.{Fault}
-use Rattle.reader.specs.Faults.{Row, told}
+use Rattle.reader.specs.Faults.{Row}
 use Rattle.reader.specs.Cutting.{behind}
-use Rattle.reader.specs.Reading.{Outcome, ended, bind, refuse, next, or-end, due, enter-at, sign-of, read-sign, pair, add-part, close-list, is-close, read-parts, read-list, by-kind, read-term, read-whole, finished}
-use Rattle.std.specs.Results.{isErr}
-use native.Mathlib.Omega.{arith}
+use Rattle.reader.specs.Reading.{Outcome, ended, bind, refuse, next, or-end, due, enter-at, sign-of, read-sign, pair, add-part, close-list, is-close, read-parts, read-list, by-kind, read-term, read-whole}
 
 pub record Grown (ns ns′ : List Node) : Type 0 where
   pub more : List Node
@@ -121,19 +117,3 @@ whole-more text ns at =
 -- so the nodes that were there come back when the others are taken off
 pub grown-by : (text : List ℕ) (ns : List Node) (at : ℕ) (r : Result ℕ Row) (ns′ : List Node) (at′ : ℕ) → ended r ns′ at′ ≡ read-whole text ns at → Grown ns ns′
 grown-by text ns at r ns′ at′ e = subst (More ns) (sym e) (whole-more text ns at) .grows
-
--- what a refused and a granted read leave
-clash : _≡_ {A = Bool} true false → ⊥
-clash z = grind arith
-
-pub told-err : (r : Result ℕ Fault) → isErr (told r) ≡ isErr r
-told-err (Ok k) = refl
-told-err (Err f) = refl
-
-pub finished-err : (S : State) (r : Result ℕ Row) (ns : List Node) (at : ℕ) → isErr r ≡ true → (S, r) ≡ finished S (ended r ns at)
-finished-err S (Ok k) ns at h = absurd (clash (sym h))
-finished-err S (Err f) ns at h = refl
-
-pub finished-ok : (S : State) (r : Result ℕ Row) (ns : List Node) (at : ℕ) → isErr r ≡ false → (record { nodes = ns; memo = S .memo }, r) ≡ finished S (ended r ns at)
-finished-ok S (Ok k) ns at h = refl
-finished-ok S (Err f) ns at h = absurd (clash h)

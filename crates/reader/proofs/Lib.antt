@@ -9,3 +9,4 @@ pub mod Overfull
 pub mod Unambiguous
 pub mod Bounds
 pub mod Exact
+pub mod Finishing

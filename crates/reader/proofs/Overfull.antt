@@ -6,7 +6,7 @@ use mathlib.Core.List.{List, [], _∷_, _++_, append-nil, append-assoc}
 use Prim.Native.Nat.{ℕ, zero, suc, _+_, _-_, _<_, _≤_}
 use native.Mathlib.Omega.{arith}
 use lib.Dec.{ltb}
-use lib.ListN.{length, drop, length-append, length-drop}
+use lib.ListN.{length, drop}
 use Rattle.std.proofs.shelf.Lists.{length-push}
 use Rattle.std.proofs.shelf.Ways.{tells}
 use Rattle.std.specs.declared.option.Option.{Option}
@@ -26,12 +26,12 @@ use Rattle.reader.specs.declared.reader.Held.{Held}
 use Rattle.reader.specs.declared.reader.Held.the-variants.{Nothing, One, Several}
 use Rattle.reader.specs.Faults.{by-sheet}
 use Rattle.reader.specs.Cutting.{behind, blanks}
-use Rattle.reader.specs.Reading.{Outcome, ended, bind, refuse, next, or-end, enter-at, placed-at, sign-of, pair, several, add-part, close-list, is-close, read-parts, read-list, by-kind, read-term, read-whole}
+use Rattle.reader.specs.Reading.{Outcome, ended, bind, refuse, next, or-end, enter-at, placed-at, pair, several, add-part, close-list, is-close, read-parts, read-list, by-kind, read-term, read-whole}
 use Rattle.reader.specs.Grammar.{Tree, Parts, leaf, list, two, more, combine, term, folded, sign-kind, tokens, all-tokens, depth, depths, Spelled, Written}
 use Rattle.reader.proofs.Spelling.{next-cut}
 use Rattle.reader.proofs.Reading.{due-some}
 use Rattle.reader.proofs.Placing.{Place, put-by, put, placed, combined}
-use Rattle.reader.proofs.Complete.{head-of, rest-of, split, no-close, turn, how-many, term-complete, parts-complete, few-parts, spelled-length, signed-by}
+use Rattle.reader.proofs.Complete.{head-of, rest-of, split, no-close, turn, how-many, term-complete, parts-complete, list-opened}
 
 pub record Fails {A : Type 0} (o : Outcome A) : Type 0 where
   pub begins : ℕ
@@ -123,17 +123,8 @@ more-over p c op oc left deep fuel text s ns at ks sp le lt =
 list-over : (s : Sign) (p : Parts) → OverParts p → (left : ℕ) → depths p ≤ left → (text : List ℕ) (ns : List Node) (at : ℕ) (ks : List Kind) → Spelled (drop at text) (sign-kind s ∷ ((all-tokens p ++ Close ∷ []) ++ ks))
     → length ns ≤ 60 → 60 < length (placed ns (folded p s) .nodes) → Fails (read-list (read-term left text) text ns at)
 list-over s p op left deep text ns at ks sp le lt =
-    let at₁ : ℕ = behind at (drop at text) in
-    let t : Token = record { kind = sign-kind s; place = at + blanks (drop at text) } in
-    let n = next-cut text at (sign-kind s ∷ ((all-tokens p ++ Close ∷ []) ++ ks)) sp in
-    let sp₁ : Spelled (drop at₁ text) (all-tokens p ++ Close ∷ ks) = subst (λ l. Spelled (drop at₁ text) l) (append-assoc (all-tokens p) (Close ∷ []) ks) (n .1) in
-    let few : how-many p ≤ length text = omega (arith, few-parts p, spelled-length sp₁, length-append (all-tokens p) (Close ∷ ks), length-drop at₁ text) in
-    let fuel : ℕ = length text - how-many p in
-    let enough : suc (length text) ≡ how-many p + suc fuel = omega arith in
-    fails-at
-    (ap (λ o. bind o (λ s′. read-parts (suc (length text)) (read-term left text) text s′ Nothing)) (due-some text ns at (λ t′ ns′ at′. sign-of t′ ns′ at′ (t′ .kind)) t (n .0) ∙ signed-by s t ns at₁)
-    ∙ ap (λ f. read-parts f (read-term left text) text s Nothing ns at₁) enough)
-    (op left deep (suc fuel) text s ns at₁ (Close ∷ ks) sp₁ le lt)
+    let o = list-opened s p left text ns at ks sp in
+    fails-at (o .is) (op left deep (suc (o .fuel)) text s ns (o .place) (Close ∷ ks) (o .spelled) le lt)
 
 leaf-over : (c : ℕ) → Over (leaf c)
 leaf-over c zero deep text t ns at ks e sp le lt = fails-at (ap (by-kind t ns at (refuse 5 (t .place) ns at)) e) (overflows (node.Variable c) (t .place) ns at le lt)

@@ -1,11 +1,10 @@
 -- Placing a term: its parts are entered before it, the left one first. This is what reading a written term does to the nodes.
 --   put ns n       the nodes after n was entered without regard to room, and its number
 --   placed ns t    the same for a term
---   Good           what was placed is there, and its node has the term
---   Added          placing adds exactly the terms that were missing
+--   Good           what was placed is there, its node has the term, and exactly the missing terms were added
 use mathlib.Core.Path.{_≡_, refl, sym, ap, ap₂, subst, _∙_}
 use mathlib.Core.Bool.{true}
-use mathlib.Core.Logic.{_⊎_, inl, inr, ⊎-elim}
+use mathlib.Core.Logic.{_⊎_, ⊎-elim}
 use mathlib.Core.List.{List, [], _∷_, _++_, append-nil, append-assoc}
 use Prim.Native.Nat.{ℕ, zero, suc, _+_, _<_, _≤_}
 use native.Mathlib.Omega.{arith}
@@ -74,72 +73,10 @@ placed-grows (var c) ns = put-grows ns (node.Variable c)
 placed-grows (meet a b) ns = omega (arith, placed-grows a ns, placed-grows b (placed ns a .nodes), put-grows (placed (placed ns a .nodes) b .nodes) (node.Meet (placed ns a .number) (placed (placed ns a .nodes) b .number)))
 placed-grows (join a b) ns = omega (arith, placed-grows a ns, placed-grows b (placed ns a .nodes), put-grows (placed (placed ns a .nodes) b .nodes) (node.Join (placed ns a .number) (placed (placed ns a .nodes) b .number)))
 
--- what was placed is there, and its node has the term
-pub record Good (ns : List Node) (w : Place) (t : Term) : Type 0 where
-  pub others : List Node
-  pub grown : w .nodes ≡ ns ++ others
-  pub grounded : Grounded (w .nodes)
-  pub there : w .number < length (w .nodes)
-  pub means : term-at (w .nodes) (w .number) ≡ t
-
-pub put-good : (ns : List Node) (n : Node) → Grounded ns → fits (length ns) n ≡ true → Good ns (put ns n) (term-of (terms ns) n)
-put-good ns n g f = go (find ns n) refl
-  where
-    go : (o : Option ℕ) → find ns n ≡ o → Good ns (put-by ns n o) (term-of (terms ns) n)
-    go (Some k) e = let z = entered-old ns n k g e in record { others = []; grown = sym (append-nil ns); grounded = g; there = z .there; means = z .means }
-    go None e = let z = entered-new ns n in record { others = n ∷ []; grown = refl; grounded = grounded-more ns n g f; there = z .there; means = z .means }
-
-abbrev pub Coded : Term → Type 0
-Coded (var c) = c ≤ 2625
-Coded (meet a b) = Coded a × Coded b
-Coded (join a b) = Coded a × Coded b
-
-module _ (ns : List Node) (p q : Place) (a b : Term) (g : Good ns p a) (h : Good (p .nodes) q b) where
-  pub both-there : (p .number < length (q .nodes)) × (q .number < length (q .nodes))
-  both-there = (omega (arith, g .there, ap length (h .grown), length-append (p .nodes) (h .others)), h .there)
-
-  pub first-means : term-at (q .nodes) (p .number) ≡ a
-  first-means = ap (λ l. term-at l (p .number)) (h .grown) ∙ term-stays (p .nodes) (h .others) (p .number) (g .there) ∙ g .means
-
-  both-good : (w : Place) (t t′ : Term) → Good (q .nodes) w t → t ≡ t′ → Good ns w t′
-  both-good w t t′ i e =
-      record {
-        others = g .others ++ (h .others ++ i .others);
-        grown = i .grown ∙ ap (λ l. l ++ i .others) (h .grown ∙ ap (λ l. l ++ h .others) (g .grown)) ∙ simp append-assoc;
-        grounded = i .grounded;
-        there = i .there;
-        means = i .means ∙ e;
-      }
-
-pub placed-good : (t : Term) → Coded t → (ns : List Node) → Grounded ns → Good ns (placed ns t) t
-placed-good (var c) h ns b = put-good ns (node.Variable c) b (code-fits c h)
-placed-good (meet x y) h ns b =
-    let g = placed-good x (h .0) ns b in
-    let i = placed-good y (h .1) (placed ns x .nodes) (g .grounded) in
-    let l = both-there ns _ _ x y g i in
-    both-good ns _ _ x y g i _ _ (meet x y) (put-good _ _ (i .grounded) (below-fits _ _ _ (l .0) (l .1))) (ap₂ meet (first-means ns _ _ x y g i) (i .means))
-placed-good (join x y) h ns b =
-    let g = placed-good x (h .0) ns b in
-    let i = placed-good y (h .1) (placed ns x .nodes) (g .grounded) in
-    let l = both-there ns _ _ x y g i in
-    both-good ns _ _ x y g i _ _ (join x y) (put-good _ _ (i .grounded) (below-fits _ _ _ (l .0) (l .1))) (ap₂ join (first-means ns _ _ x y g i) (i .means))
-
 adds-append : {ts us vs : List Term} (xs ws : List Term) → Adds ts us vs → Adds vs xs ws → Adds ts (us ++ xs) ws
 adds-append xs ws done b = b
 adds-append xs ws (old h a) b = old h (adds-append xs ws a b)
 adds-append xs ws (new h a) b = new h (adds-append xs ws a b)
-
-inv : {ts us vs : List Term} {u : Term} → Adds ts (u ∷ us) vs → (Has ts u × Adds ts us vs) ⊎ ((Has ts u → ⊥) × Adds (ts ++ u ∷ []) us vs)
-inv (old h a) = inl (h, a)
-inv (new h a) = inr (h, a)
-
-end-of : {ts vs : List Term} → Adds ts [] vs → ts ≡ vs
-end-of done = refl
-
-pub adds-same : {ts us vs : List Term} (ws : List Term) → Adds ts us vs → Adds ts us ws → vs ≡ ws
-adds-same ws done b = end-of b
-adds-same ws (old h a) b = ⊎-elim (λ p. adds-same ws a (p .1)) (λ p. absurd (p .0 h)) (inv b)
-adds-same ws (new h a) b = ⊎-elim (λ p. absurd (h (p .0))) (λ p. adds-same ws a (p .1)) (inv b)
 
 -- nodes whose parts' terms differ have terms that differ
 module _ (ts : List Term) (m : ℕ) (apart : (i j : ℕ) → i < m → j < m → getD ts i (var 0) ≡ getD ts j (var 0) → i ≡ j) where
@@ -191,32 +128,72 @@ module _ (ns : List Node) (grounded : Grounded ns) (distinct : Distinct ns) wher
       let same-node : node-at ns k ≡ n = made-inj (terms ns) (length ns) (apart (length ns) (omega arith)) (node-at ns k) n (fits-more k (length ns) (node-at ns k) (grounded k lt′) (omega arith)) f (sym (term-is ns k grounded lt′) ∙ is) in
       not-found ns k n none lt′ same-node
 
-  put-adds : (n : Node) → fits (length ns) n ≡ true → Adds (terms ns) (term-of (terms ns) n ∷ []) (terms (put ns n .nodes)) × Distinct (put ns n .nodes)
-  put-adds n f = go (find ns n) refl
-    where
-      go : (o : Option ℕ) → find ns n ≡ o → Adds (terms ns) (term-of (terms ns) n ∷ []) (terms (put-by ns n o .nodes)) × Distinct (put-by ns n o .nodes)
-      go (Some k) e = let z = entered-old ns n k grounded e in (old (k, omega (arith, terms-length ns, z .there), z .means) done, distinct)
-      go None e = (new (missing n e f) (subst (λ l. Adds (terms ns ++ term-of (terms ns) n ∷ []) [] l) (sym (terms-push ns n)) done), distinct-more ns n distinct e)
+-- the terms us were offered to the nodes ns
+pub record Good (ns : List Node) (w : Place) (t : Term) (us : List Term) : Type 0 where
+  pub others : List Node
+  pub grown : w .nodes ≡ ns ++ others
+  pub grounded : Grounded (w .nodes)
+  pub distinct : Distinct (w .nodes)
+  pub there : w .number < length (w .nodes)
+  pub means : term-at (w .nodes) (w .number) ≡ t
+  pub adds : Adds (terms ns) us (terms (w .nodes))
 
-pub record Added (ns : List Node) (t : Term) : Type 0 where
-  pub adds : Adds (terms ns) (subterms t) (terms (placed ns t .nodes))
-  pub distinct : Distinct (placed ns t .nodes)
+put-good : (ns : List Node) (n : Node) → Grounded ns → Distinct ns → fits (length ns) n ≡ true → Good ns (put ns n) (term-of (terms ns) n) (term-of (terms ns) n ∷ [])
+put-good ns n g d f = go (find ns n) refl
+  where
+    go : (o : Option ℕ) → find ns n ≡ o → Good ns (put-by ns n o) (term-of (terms ns) n) (term-of (terms ns) n ∷ [])
+    go (Some k) e =
+        let z = entered-old ns n k g e in
+        record {
+          others = [];
+          grown = sym (append-nil ns);
+          grounded = g;
+          distinct = d;
+          there = z .there;
+          means = z .means;
+          adds = old (k, omega (arith, terms-length ns, z .there), z .means) done;
+        }
+    go None e =
+        let z = entered-new ns n in
+        record {
+          others = n ∷ [];
+          grown = refl;
+          grounded = grounded-more ns n g f;
+          distinct = distinct-more ns n d e;
+          there = z .there;
+          means = z .means;
+          adds = new (missing ns g d n e f) (subst (λ l. Adds (terms ns ++ term-of (terms ns) n ∷ []) [] l) (sym (terms-push ns n)) done);
+        }
 
-pub placed-adds : (t : Term) → Coded t → (ns : List Node) → Grounded ns → Distinct ns → Added ns t
-placed-adds (var c) h ns b a = let p = put-adds ns b a (node.Variable c) (code-fits c h) in record { adds = p .0; distinct = p .1 }
-placed-adds (meet x y) h ns b a =
-    let g = placed-good x (h .0) ns b in
-    let i = placed-good y (h .1) (placed ns x .nodes) (g .grounded) in
-    let l = both-there ns _ _ x y g i in
-    let u = placed-adds x (h .0) ns b a in
-    let v = placed-adds y (h .1) (placed ns x .nodes) (g .grounded) (u .distinct) in
-    let p = put-adds (placed (placed ns x .nodes) y .nodes) (i .grounded) (v .distinct) (node.Meet (placed ns x .number) (placed (placed ns x .nodes) y .number)) (below-fits _ _ _ (l .0) (l .1)) in
-    record { adds = adds-append _ _ (u .adds) (adds-append _ _ (v .adds) (subst (λ w. Adds (terms (placed (placed ns x .nodes) y .nodes)) (w ∷ []) (terms (placed ns (meet x y) .nodes))) (ap₂ meet (first-means ns _ _ x y g i) (i .means)) (p .0))); distinct = p .1 }
-placed-adds (join x y) h ns b a =
-    let g = placed-good x (h .0) ns b in
-    let i = placed-good y (h .1) (placed ns x .nodes) (g .grounded) in
-    let l = both-there ns _ _ x y g i in
-    let u = placed-adds x (h .0) ns b a in
-    let v = placed-adds y (h .1) (placed ns x .nodes) (g .grounded) (u .distinct) in
-    let p = put-adds (placed (placed ns x .nodes) y .nodes) (i .grounded) (v .distinct) (node.Join (placed ns x .number) (placed (placed ns x .nodes) y .number)) (below-fits _ _ _ (l .0) (l .1)) in
-    record { adds = adds-append _ _ (u .adds) (adds-append _ _ (v .adds) (subst (λ w. Adds (terms (placed (placed ns x .nodes) y .nodes)) (w ∷ []) (terms (placed ns (join x y) .nodes))) (ap₂ join (first-means ns _ _ x y g i) (i .means)) (p .0))); distinct = p .1 }
+-- a meet or a join of two terms that were placed, one after the other
+module _ (kind : ℕ → ℕ → Node) (made : Term → Term → Term) (is : (ts : List Term) (a b : ℕ) → term-of ts (kind a b) ≡ made (getD ts a (var 0)) (getD ts b (var 0)))
+    (fit : (k a b : ℕ) → a < k → b < k → fits k (kind a b) ≡ true) where
+  two-good : (ns : List Node) (p q : Place) (x y : Term) (us vs : List Term) → Good ns p x us → Good (p .nodes) q y vs → Good ns (put-two kind (p .number) q) (made x y) (us ++ (vs ++ made x y ∷ []))
+  two-good ns p q x y us vs g h =
+      let below : p .number < length (q .nodes) = omega (arith, g .there, ap length (h .grown), length-append (p .nodes) (h .others)) in
+      let first : term-at (q .nodes) (p .number) ≡ x = ap (λ l. term-at l (p .number)) (h .grown) ∙ term-stays (p .nodes) (h .others) (p .number) (g .there) ∙ g .means in
+      let i = put-good (q .nodes) (kind (p .number) (q .number)) (h .grounded) (h .distinct) (fit _ _ _ below (h .there)) in
+      let e : term-of (terms (q .nodes)) (kind (p .number) (q .number)) ≡ made x y = is (terms (q .nodes)) (p .number) (q .number) ∙ ap₂ made first (h .means) in
+      record {
+        others = g .others ++ (h .others ++ i .others);
+        grown = i .grown ∙ ap (λ l. l ++ i .others) (h .grown ∙ ap (λ l. l ++ h .others) (g .grown)) ∙ simp append-assoc;
+        grounded = i .grounded;
+        distinct = i .distinct;
+        there = i .there;
+        means = i .means ∙ e;
+        adds = adds-append _ _ (g .adds) (adds-append _ _ (h .adds) (subst (λ w. Adds (terms (q .nodes)) (w ∷ []) (terms (put-two kind (p .number) q .nodes))) e (i .adds)));
+      }
+
+abbrev pub Coded : Term → Type 0
+Coded (var c) = c ≤ 2625
+Coded (meet a b) = Coded a × Coded b
+Coded (join a b) = Coded a × Coded b
+
+pub placed-good : (t : Term) → Coded t → (ns : List Node) → Grounded ns → Distinct ns → Good ns (placed ns t) t (subterms t)
+placed-good (var c) h ns g d = put-good ns (node.Variable c) g d (code-fits c h)
+placed-good (meet x y) h ns g d =
+    let p = placed-good x (h .0) ns g d in
+    two-good node.Meet meet (λ ts a b. refl) below-fits ns _ _ x y _ _ p (placed-good y (h .1) (placed ns x .nodes) (p .grounded) (p .distinct))
+placed-good (join x y) h ns g d =
+    let p = placed-good x (h .0) ns g d in
+    two-good node.Join join (λ ts a b. refl) below-fits ns _ _ x y _ _ p (placed-good y (h .1) (placed ns x .nodes) (p .grounded) (p .distinct))

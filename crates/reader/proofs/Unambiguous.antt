@@ -1,11 +1,11 @@
 -- A text is written in one way only.
 use mathlib.Core.Path.{_≡_, refl, sym, ap, ap₂, _∙_}
-use mathlib.Core.Bool.{Bool, true, false}
 use mathlib.Core.List.{List, [], _∷_, _++_, append-nil, append-assoc}
 use Prim.Native.Nat.{ℕ, _+_, _≤_}
 use native.Mathlib.Omega.{arith}
 use lib.ListN.{length}
 use Rattle.std.proofs.shelf.Lists.{length-push, same-from-push}
+use Rattle.sheet.proofs.Nodes.{clash}
 use Rattle.reader.specs.declared.token.Kind.{Kind}
 use Rattle.reader.specs.declared.token.Kind.the-variants.{Open, Close}
 use Rattle.reader.specs.declared.reader.Sign.{Sign}
@@ -65,9 +65,6 @@ all-push (t ∷ ts) c h i = (h .0, all-push ts c (h .1) i)
 hd : List Kind → Kind
 hd [] = Open
 hd (k ∷ ks) = k
-
-clash : _≡_ {A = Bool} true false → ⊥
-clash z = grind arith
 
 never-close : (t : Tree) (xs ys zs : List Kind) → Close ∷ xs ≡ (tokens t ++ ys) ++ zs → ⊥
 unfolding hd

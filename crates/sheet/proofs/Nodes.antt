@@ -32,7 +32,7 @@ same-true (Join a b) (Meet x y) h = grind (arith, tells)
 same-true (Join a b) (Join x y) h = grind (arith, tells)
 
 -- what the derived `==` answers
-pub equals : (m n : Node) (r : Bool) → ghosts .equals m n r → r ≡ same m n
+equals : (m n : Node) (r : Bool) → ghosts .equals m n r → r ≡ same m n
 equals (Variable c) (Variable d) r h = grind (arith, tells, h)
 equals (Variable c) (Meet x y) r h = h
 equals (Variable c) (Join x y) r h = h
@@ -45,16 +45,13 @@ equals (Join a b) (Meet x y) r h = h
 equals (Join a b) (Join x y) true h = grind (arith, tells, h)
 equals (Join a b) (Join x y) false h = grind (arith, tells, h)
 
--- one step of the search, at the number k
-module _ (ns : List Node) (k : ℕ) (n : Node) where
-  pub find-here : k < length ns → true ≡ same (node-at ns k) n → find-from k (drop k ns) n ≡ Some k
-  find-here lt e = at-drop-more (λ l. find-from k l n) ns k (Variable 0) lt ∙ ap (λ b. cond b (Some k) (find-from (k + 1) (drop (k + 1) ns) n)) (sym e)
+-- one step of the search: b is what `==` answered for the node x, which stands at the number k
+pub find-step : (ns : List Node) (k : ℕ) (x n : Node) (b : Bool) → k < length ns → x ≡ node-at ns k → ghosts .equals x n b → find-from k (drop k ns) n ≡ cond b (Some k) (find-from (k + 1) (drop (k + 1) ns) n)
+find-step ns k x n b lt is e =
+    at-drop-more (λ l. find-from k l n) ns k (Variable 0) lt ∙ ap (λ y. cond y (Some k) (find-from (k + 1) (drop (k + 1) ns) n)) (sym (equals x n b e ∙ ap (λ m. same m n) is))
 
-  pub find-later : k < length ns → false ≡ same (node-at ns k) n → find-from k (drop k ns) n ≡ find-from (k + 1) (drop (k + 1) ns) n
-  find-later lt e = at-drop-more (λ l. find-from k l n) ns k (Variable 0) lt ∙ ap (λ b. cond b (Some k) (find-from (k + 1) (drop (k + 1) ns) n)) (sym e)
-
-  pub find-end : length ns ≤ k → find-from k (drop k ns) n ≡ None
-  find-end le = at-drop-all (λ l. find-from k l n) ns k le
+pub find-end : (ns : List Node) (k : ℕ) (n : Node) → length ns ≤ k → find-from k (drop k ns) n ≡ None
+find-end ns k n le = at-drop-all (λ l. find-from k l n) ns k le
 
 -- where a node was found, it is
 pub record Here (ns : List Node) (j k : ℕ) (n : Node) : Type 0 where

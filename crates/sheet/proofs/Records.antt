@@ -2,7 +2,7 @@
 use mathlib.Core.Path.{_≡_, refl, sym, ap, ap₂, _∙_, fun-ext}
 use mathlib.Core.Bool.{false, cond}
 use mathlib.Core.Logic.{_⊎_, inl, inr}
-use mathlib.Core.List.{List, [], _∷_, _++_, map}
+use mathlib.Core.List.{List, [], _∷_, _++_}
 use Prim.Native.Nat.{ℕ, zero, suc, max, _+_, _-_, _/_, _%_, _^_, _<_, _≤_}
 use native.Mathlib.Nat.{div-eq-of-lt, mod-lt}
 use native.Mathlib.Omega.{arith}
@@ -18,7 +18,7 @@ use Rattle.sheet.specs.declared.node.Node.{Node}
 use Rattle.sheet.specs.declared.node.Node.the-variants.{Variable}
 use Rattle.sheet.specs.declared.node.Record.{Record}
 use Rattle.sheet.specs.Nodes.{node-at}
-use Rattle.sheet.specs.Records.{Memo, fresh, within, nodes, bit, answers, memo, Inside}
+use Rattle.sheet.specs.Records.{Memo, fresh, within, shorter, nodes, bit, answers, memo, Inside}
 
 -- a record with no settled pair has the answers of no record
 push-row : (rs : List Record) (n : Node) (i : ℕ) → answers (getD (rs ++ fresh n ∷ []) i (fresh (Variable 0))) ≡ answers (getD rs i (fresh (Variable 0)))
@@ -36,9 +36,12 @@ nodes-push rs n = map-append (λ (r : Record). r .node) rs (fresh n ∷ [])
 pub inside-more : (n k : ℕ) (m : Memo) → Inside n m → n ≤ k → Inside k m
 inside-more n k m h le i j l = h i j (omega arith)
 
--- the node of a record
-pub node-is : (rs : List Record) (k : ℕ) → node-at (nodes rs) k ≡ getD rs k (fresh (Variable 0)) .node
-node-is rs k = List·getD-map (λ (r : Record). r .node) rs k (fresh (Variable 0))
+-- the nodes, one for each record
+pub nodes-length : (rs : List Record) → length (nodes rs) ≡ length rs
+nodes-length rs = length-map rs (λ (r : Record). r .node)
+
+pub node-is : (rs : List Record) (k : ℕ) → getD rs k (fresh (Variable 0)) .node ≡ node-at (nodes rs) k
+node-is rs k = sym (List·getD-map (λ (r : Record). r .node) rs k (fresh (Variable 0)))
 
 -- the low bits of a word
 low-bit : (w n j : ℕ) → j < n → bit (w % 2 ^ n) j ≡ bit w j
@@ -59,10 +62,6 @@ within-low n r j lt = ap₂ (λ s a. cond s (Some a) None) (low-bit (r .settled)
 
 within-high : (n : ℕ) (r : Record) (j : ℕ) → n ≤ j → answers (within n r) j ≡ None
 within-high n r j le = ap (λ s. cond s (Some (bit (r .affirmed % 2 ^ n) j)) None) (high-bit (r .settled) n j le)
-
--- the first n records, each with its pairs with the first n nodes
-abbrev pub shorter : ℕ → List Record → List Record
-shorter n rs = map (within n) (take n rs)
 
 pub nodes-shorter : (n : ℕ) (rs : List Record) → nodes (shorter n rs) ≡ take n (nodes rs)
 nodes-shorter n rs = map-map (λ (r : Record). r .node) (within n) (take n rs) ∙ sym (take-map (λ (r : Record). r .node) n rs)

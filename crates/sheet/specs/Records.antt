@@ -2,6 +2,7 @@
 --   Memo           for each pair of numbers, its answer if it is settled
 --   fresh n        the record of a node of which no pair is settled
 --   within n r     the record r with its pairs with the first n nodes only
+--   shorter n rs   the first n records, with their pairs with the first n nodes only
 --   nodes rs       the nodes of the records
 --   memo rs        the settled pairs of the records
 --   Inside n m     every pair settled in m is of nodes below n
@@ -10,7 +11,7 @@ use mathlib.Core.Bool.{Bool, false, cond}
 use mathlib.Core.List.{List, map}
 use Prim.Native.Nat.{ℕ, max, _/_, _%_, _^_, _≤_}
 use lib.Dec.{eqb}
-use lib.ListN.{getD}
+use lib.ListN.{getD, take}
 use Rattle.std.specs.Options.{isSome}
 use Rattle.std.specs.declared.option.Option.{Option}
 use Rattle.std.specs.declared.option.Option.the-variants.{Some, None}
@@ -26,6 +27,9 @@ fresh n = record { node = n; settled = 0; affirmed = 0 }
 
 abbrev pub within : ℕ → Record → Record
 within n r = record { node = r .node; settled = r .settled % 2 ^ n; affirmed = r .affirmed % 2 ^ n }
+
+abbrev pub shorter : ℕ → List Record → List Record
+shorter n rs = map (within n) (take n rs)
 
 abbrev pub nodes : List Record → List Node
 nodes = map (λ r. r .node)

@@ -1,20 +1,20 @@
 // Taking off the nodes that were entered last.
 ghost use mathlib.Core.Path.{_≡_};
 ghost use Prim.Native.Nat.{_<_};
-ghost use mathlib.Core.List.{map};
 ghost use Rattle.std.specs.Of.Vec.{vec-items, vec-cap};
-ghost use Rattle.sheet.specs.Records.{within};
+ghost use Rattle.sheet.specs.Records.{shorter};
 ghost use Rattle.sheet.specs.Keep.{kept};
 ghost use Rattle.sheet.specs.View.{state};
 use crate::node::Record;
 use crate::sheet::Sheet;
 
-// Leaves every record the pairs with the first n nodes.
-fn forget(records: &mut Vec<Record>, n: usize)
+// Leaves the first n records, each with its pairs with the first n nodes.
+fn shorten(records: &mut Vec<Record>, n: usize)
     requires { ⌜ n < 64 ⌝ }
-    ensures items { λ _. ⌜ vec-items (now (records .exit)) ≡ map (within n) (vec-items (now (records .entry))) ⌝ }
+    ensures items { λ _. ⌜ vec-items (now (records .exit)) ≡ shorter n (vec-items (now (records .entry))) ⌝ }
     ensures capacity { λ _. ⌜ vec-cap (now (records .exit)) ≡ vec-cap (now (records .entry)) ⌝ }
 {
+    records.truncate(n);
     for record in records.iter_mut() {
         *record = record.within(n);
     }
@@ -26,8 +26,7 @@ impl Sheet {
         ensures { λ _. ⌜ state (now (self .exit)) ≡ kept n (state (now (self .entry))) ⌝ }
     {
         if n < self.records.len() {
-            self.records.truncate(n);
-            forget(&mut self.records, n);
+            shorten(&mut self.records, n);
         }
     }
 }

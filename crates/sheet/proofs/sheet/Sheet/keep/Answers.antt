@@ -1,5 +1,4 @@
 use mathlib.Core.Path.{_≡_, sym, ap, subst, subst₂, _∙_}
-use mathlib.Core.List.{map}
 use Prim.Native.Nat.{_≤_}
 use native.Mathlib.Omega.{arith}
 use lib.ListN.{length, take, length-map}
@@ -9,7 +8,7 @@ use Rattle.sheet.specs.Nodes.{Grounded, Distinct}
 use Rattle.sheet.specs.Records.{nodes, memo, within, Inside}
 use Rattle.sheet.specs.View.{state}
 use Rattle.sheet.proofs.Nodes.{grounded-less, distinct-less}
-use Rattle.sheet.proofs.Records.{shorter, nodes-shorter, memo-shorter, inside-shorter}
+use Rattle.sheet.proofs.Records.{nodes-shorter, memo-shorter, inside-shorter}
 use Rattle.sheet.proofs.Keep.{kept-all}
 use Rattle.sheet.proofs.View.{count-is, settled-inside}
 use Rattle.sheet.proofs.sheet.Sheet.keep.Needs as need
@@ -19,13 +18,13 @@ ghost-self c =
     let sheet = c .args .self .now in
     let n = c .args .n in
     let rs = vec-items (sheet .records) in
+    let items = c .shorten .ensures .items in
     let fit : n ≤ length rs = omega (arith, sheet .records .ok .0) in
-    let items : vec-items (c .forget .last .records) ≡ shorter n rs = c .forget .ensures .items ∙ ap (map (within n)) (c .truncate .ensures .items) in
-    let long : vec-len (c .forget .last .records) ≡ n = omega (arith, c .forget .last .records .ok .0, ap length items, length-map (take n rs) (within n), length-take n rs) in
+    let long : vec-len (c .shorten .last .records) ≡ n = omega (arith, c .shorten .last .records .ok .0, ap length items, length-map (take n rs) (within n), length-take n rs) in
     let all = ap nodes items ∙ nodes-shorter n rs in (
       omega (arith, sheet .few),
       (
-        omega (arith, sheet .room, c .forget .ensures .capacity, c .truncate .ensures .capacity),
+        omega (arith, sheet .room, c .shorten .ensures .capacity),
         (
           subst Grounded (sym all) (grounded-less (nodes rs) n (sheet .grounded)),
           (
@@ -38,13 +37,10 @@ ghost-self c =
 
 pub returns-then-n-len : need.returns-then-n-len
 returns-then-n-len c =
-    let sheet = c .args .self .now in
-    let n = c .args .n in
-    let rs = vec-items (sheet .records) in
-    let fit : n ≤ length rs = omega (arith, sheet .records .ok .0) in
-    let items : vec-items (c .forget .last .records) ≡ shorter n rs = c .forget .ensures .items ∙ ap (map (within n)) (c .truncate .ensures .items) in
-    let all = ap nodes items ∙ nodes-shorter n rs in
-    let settled = ap memo items ∙ memo-shorter n rs fit in
+    let rs = vec-items (c .args .self .now .records) in
+    let items = c .shorten .ensures .items in
+    let all = ap nodes items ∙ nodes-shorter (c .args .n) rs in
+    let settled = ap memo items ∙ memo-shorter (c .args .n) rs (omega (arith, c .args .self .now .records .ok .0)) in
     λ i. record { nodes = all i; memo = settled i }
 
 pub returns-else-n-len : need.returns-else-n-len

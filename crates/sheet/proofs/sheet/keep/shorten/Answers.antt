@@ -1,4 +1,4 @@
-use mathlib.Core.Path.{refl, ap, _∙_}
+use mathlib.Core.Path.{ap, _∙_}
 use mathlib.Core.List.{_++_, map, append-nil}
 use native.Mathlib.Omega.{arith}
 use lib.ListN.{getD, set, take}
@@ -6,7 +6,7 @@ use Rattle.std.proofs.shelf.Lists.{take-at, take-all, drop-all, getD-default}
 use Rattle.std.proofs.shelf.Edits.{map-over-more}
 use Rattle.sheet.specs.declared.node.Node.the-variants.{Variable}
 use Rattle.sheet.specs.Records.{fresh, within}
-use Rattle.sheet.proofs.sheet.keep.forget.Needs as need
+use Rattle.sheet.proofs.sheet.keep.shorten.Needs as need
 
 pub loop-record-again : need.loop-record-again
 loop-record-again c =
@@ -24,6 +24,6 @@ returns c =
     let end = c .loop-record-test .left in
     record {
       items = take-at (c .loop-record .record-items) _ _ (c .loop-record .kept .record-items ∙ c .deref-mut-record-items .ensures .len) ∙ c .loop-record .inv
-          ∙ ap (λ l. map f (take i items) ++ l) (drop-all i items end) ∙ append-nil (map f (take i items)) ∙ ap (map f) (take-all i items end ∙ c .deref-mut-record-items .ensures .value);
-      capacity = refl;
+          ∙ ap (λ l. map f (take i items) ++ l) (drop-all i items end) ∙ append-nil (map f (take i items)) ∙ ap (map f) (take-all i items end ∙ c .deref-mut-record-items .ensures .value ∙ c .truncate .ensures .items);
+      capacity = c .truncate .ensures .capacity;
     }
