@@ -24,7 +24,7 @@ use Rattle.reader.specs.declared.token.Kind.the-variants.{Open, Close, Plus, S
 use Rattle.reader.specs.declared.token.Token.{Token}
 use Rattle.reader.specs.Faults.{Row}
 use Rattle.reader.specs.Cutting.{blank, blanks, number, sign, token-at, variable, size, judge, piece, cut, behind}
-use Rattle.reader.specs.Grammar.{Between, Letter, Spelled, end, space, opened, closed, star, plus, letter, digit, digits}
+use Rattle.reader.specs.Grammar.{Between, Letter, Spelled, end, space, opened, closed, star, plus, letter, digit, digits, Cuts}
 
 between : (lo hi c : ℕ) → within lo hi c ≡ true → Between lo hi c
 between lo hi c h = (grind (arith, tells), grind (arith, tells))
@@ -247,3 +247,12 @@ module _ (text : List ℕ) (at : ℕ) where
 
   pub next-none : cut at (drop at text) ≡ Ok None → Spelled (drop at text) []
   next-none h = spelled-none (at + blanks (drop at text)) (drop at text) h
+
+  pub cuts-law : Cuts (drop at text) (cut at (drop at text)) (drop (behind at (drop at text)) text)
+  cuts-law =
+      record {
+        none = next-none;
+        some = λ t h ks s. next-some t ks h s;
+        spelled-none = λ s. next-cut [] s;
+        spelled-some = λ k ks s. let c = next-cut (k ∷ ks) s in ((at + blanks (drop at text), c .0), c .1);
+      }

@@ -8,6 +8,7 @@ ghost use Rattle.std.specs.Vec.{made};
 ghost use Rattle.std.specs.Slices.{found};
 ghost use Rattle.reader.specs.Faults.{number-of, row, told, by-cutter};
 ghost use Rattle.reader.specs.Cutting.{blanks, size, number, sign, judge, cut, behind};
+ghost use Rattle.reader.specs.Grammar.{Cuts};
 use crate::fault::Cause;
 use crate::fault::Fault;
 use crate::fault::Layer;
@@ -139,6 +140,7 @@ impl<'a> Cutter<'a> {
         ensures answer { λ r. ⌜ told r ≡ cut (now (self .entry) .at) (drop (now (self .entry) .at) (now (self .entry) .text .now)) ⌝ }
         ensures after { λ r. ⌜ now (self .exit) .at ≡ behind (now (self .entry) .at) (drop (now (self .entry) .at) (now (self .entry) .text .now)) ⌝ }
         ensures text { λ r. ⌜ now (self .exit) .text .now ≡ now (self .entry) .text .now ⌝ }
+        ensures law { λ r. ⌜ Cuts (drop (now (self .entry) .at) (now (self .entry) .text .now)) (told r) (drop (now (self .exit) .at) (now (self .exit) .text .now)) ⌝ }
         ensures onward { λ r. ⌜ now (self .entry) .at ≤ now (self .exit) .at ⌝ }
         ensures some { λ r. ⌜ made (told r) (λ o. found o (λ _. now (self .entry) .at < now (self .exit) .at)) ⌝ }
     {

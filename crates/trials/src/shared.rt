@@ -12,14 +12,14 @@ use std::alloc::Global;
 use std::test::*;
 
 // A text, its node, and how many nodes there are then.
-pub type Granted = (&'static [u8], usize, usize);
+pub(crate) type Granted = (&'static [u8], usize, usize);
 
 // A text, the number of its fault, and the place.
-pub type Refused = (&'static [u8], u8, usize);
+pub(crate) type Refused = (&'static [u8], u8, usize);
 
 // Enters the first n variables, a, a0, a1 and so on, so that node k is the variable with code k.
 // On a sheet that begins with them it checks that they are there.
-pub fn fill(sheet: &mut Sheet, n: u8) -> Result<(), Fail> {
+pub(crate) fn fill(sheet: &mut Sheet, n: u8) -> Result<(), Fail> {
     for k in 0..n {
         let node = sheet.enter(Node::Variable(u64::from(k)))?;
         check_eq(node, usize::from(k))?;
@@ -28,7 +28,7 @@ pub fn fill(sheet: &mut Sheet, n: u8) -> Result<(), Fail> {
 }
 
 // The text is read as the node, and then there are `count` nodes.
-pub fn granted(sheet: &mut Sheet, text: &[u8], node: usize, count: usize) -> Result<(), Fail> {
+pub(crate) fn granted(sheet: &mut Sheet, text: &[u8], node: usize, count: usize) -> Result<(), Fail> {
     check_eq(read(sheet, text)?, node)?;
     check_eq(sheet.count(), count)
 }
@@ -43,7 +43,7 @@ fn layer(number: u8) -> Layer {
 }
 
 // The text is refused, and no node comes or goes.
-pub fn refused(sheet: &mut Sheet, text: &[u8], number: u8, place: usize) -> Result<(), Fail> {
+pub(crate) fn refused(sheet: &mut Sheet, text: &[u8], number: u8, place: usize) -> Result<(), Fail> {
     let count = sheet.count();
     match read(sheet, text) {
         Ok(node) => return Err(Fail::new(format_args!("it is granted as node {node}"))),
@@ -55,14 +55,14 @@ pub fn refused(sheet: &mut Sheet, text: &[u8], number: u8, place: usize) -> Resu
     check_eq(sheet.count(), count)
 }
 
-pub fn all_granted(sheet: &mut Sheet, rows: &[Granted]) -> Result<(), Fail> {
+pub(crate) fn all_granted(sheet: &mut Sheet, rows: &[Granted]) -> Result<(), Fail> {
     for (text, node, count) in rows {
         granted(sheet, text, *node, *count).note(format_args!("text {text:?}"))?;
     }
     Ok(())
 }
 
-pub fn all_refused(sheet: &mut Sheet, rows: &[Refused]) -> Result<(), Fail> {
+pub(crate) fn all_refused(sheet: &mut Sheet, rows: &[Refused]) -> Result<(), Fail> {
     for (text, number, place) in rows {
         refused(sheet, text, *number, *place).note(format_args!("text {text:?}"))?;
     }
@@ -70,7 +70,7 @@ pub fn all_refused(sheet: &mut Sheet, rows: &[Refused]) -> Result<(), Fail> {
 }
 
 // The bytes of each part in a row, each part as often as its number says.
-pub fn woven(heap: Global, parts: &[(&[u8], u32)]) -> Result<Vec<u8>, AllocError> {
+pub(crate) fn woven(heap: Global, parts: &[(&[u8], u32)]) -> Result<Vec<u8>, AllocError> {
     let mut text = Vec::new(heap);
     for (bytes, times) in parts {
         for _ in 0..*times {
