@@ -2,16 +2,15 @@
 use mathlib.Core.Path.{_≡_, sym, subst, _∙_}
 use Prim.Native.Nat.{_≤_}
 use native.Mathlib.Omega.{arith}
-use lib.ListN.{length-map}
 use Rattle.std.specs.Of.Vec.{vec-items, vec-len}
-use Rattle.sheet.specs.declared.node.Record.{Record}
 use Rattle.sheet.specs.declared.sheet.Sheet.{Sheet}
 use Rattle.sheet.specs.Records.{Inside}
 use Rattle.sheet.specs.State.{count}
 use Rattle.sheet.specs.View.{state, memo-of}
+use Rattle.sheet.proofs.Records.{nodes-length}
 
 pub count-is : (s : Sheet) → vec-len (s .records) ≡ count (state s)
-count-is s = s .records .ok .0 ∙ sym (length-map (vec-items (s .records)) (λ (r : Record). r .node))
+count-is s = s .records .ok .0 ∙ sym (nodes-length (vec-items (s .records)))
 
 pub at-most : (s : Sheet) → count (state s) ≤ 60
 at-most s = omega (arith, s .few, count-is s)
