@@ -28,7 +28,12 @@ pub(crate) fn fill(sheet: &mut Sheet, n: u8) -> Result<(), Fail> {
 }
 
 // The text is read as the node, and then there are `count` nodes.
-pub(crate) fn granted(sheet: &mut Sheet, text: &[u8], node: usize, count: usize) -> Result<(), Fail> {
+pub(crate) fn granted(
+    sheet: &mut Sheet,
+    text: &[u8],
+    node: usize,
+    count: usize,
+) -> Result<(), Fail> {
     check_eq(read(sheet, text)?, node)?;
     check_eq(sheet.count(), count)
 }
@@ -43,7 +48,12 @@ fn layer(number: u8) -> Layer {
 }
 
 // The text is refused, and no node comes or goes.
-pub(crate) fn refused(sheet: &mut Sheet, text: &[u8], number: u8, place: usize) -> Result<(), Fail> {
+pub(crate) fn refused(
+    sheet: &mut Sheet,
+    text: &[u8],
+    number: u8,
+    place: usize,
+) -> Result<(), Fail> {
     let count = sheet.count();
     match read(sheet, text) {
         Ok(node) => return Err(Fail::new(format_args!("it is granted as node {node}"))),
