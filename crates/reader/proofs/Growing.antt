@@ -62,9 +62,6 @@ grown-more : (ns : List Node) (n : Node) (o : Option ℕ) → Grown ns (grown ns
 grown-more ns n (Some k) = none ns
 grown-more ns n None = room-more ns n (ltb (length ns) 60)
 
-entered-more : (ns : List Node) (n : Node) → Grown ns (grown ns n (find ns n))
-entered-more ns n = grown-more ns n (find ns n)
-
 signed-more : (t : Token) (ns : List Node) (at : ℕ) (k : Kind) → More ns (sign-of t ns at k)
 signed-more t ns at Plus = still _ ns at
 signed-more t ns at Star = still _ ns at
@@ -74,42 +71,39 @@ signed-more t ns at (Variable c) = still _ ns at
 
 adding-more : (s : Sign) (held : Held) (part p : ℕ) (ns : List Node) (at : ℕ) → More ns (add-part s held part p ns at)
 adding-more s Nothing part p ns at = still _ ns at
-adding-more s (One whole) part p ns at = bound (enter-at (pair s whole part) p ns at) (λ k ns′ at′. ended (Ok (Several k)) ns′ at′) (record { grows = entered-more ns (pair s whole part) }) (λ k ns′ at′. still _ ns′ at′)
-adding-more s (Several whole) part p ns at = bound (enter-at (pair s whole part) p ns at) (λ k ns′ at′. ended (Ok (Several k)) ns′ at′) (record { grows = entered-more ns (pair s whole part) }) (λ k ns′ at′. still _ ns′ at′)
+adding-more s (One whole) part p ns at = bound (enter-at (pair s whole part) p ns at) (λ k ns′ at′. ended (Ok (Several k)) ns′ at′) (record { grows = grown-more ns (pair s whole part) (find ns (pair s whole part)) }) (λ k ns′ at′. still _ ns′ at′)
+adding-more s (Several whole) part p ns at = bound (enter-at (pair s whole part) p ns at) (λ k ns′ at′. ended (Ok (Several k)) ns′ at′) (record { grows = grown-more ns (pair s whole part) (find ns (pair s whole part)) }) (λ k ns′ at′. still _ ns′ at′)
 
-Adds : (Token → List Node → ℕ → Outcome ℕ) → Type 0
-Adds term = (t : Token) (ns : List Node) (at : ℕ) → More ns (term t ns at)
+abbrev Extends : (Token → List Node → ℕ → Outcome ℕ) → Type 0
+Extends term = (t : Token) (ns : List Node) (at : ℕ) → More ns (term t ns at)
 
 cond-more : {A : Type 0} {ns : List Node} (b : Bool) (x y : Outcome A) → More ns x → More ns y → More ns (cond b x y)
 cond-more true x y g h = g
 cond-more false x y g h = h
 
-parts-more : (fuel : ℕ) (term : Token → List Node → ℕ → Outcome ℕ) → Adds term → (text : List ℕ) (s : Sign) (held : Held) (ns : List Node) (at : ℕ) → More ns (read-parts fuel term text s held ns at)
-unfolding Adds
+parts-more : (fuel : ℕ) (term : Token → List Node → ℕ → Outcome ℕ) → Extends term → (text : List ℕ) (s : Sign) (held : Held) (ns : List Node) (at : ℕ) → More ns (read-parts fuel term text s held ns at)
 parts-more zero term a text s held ns at = still _ ns at
 parts-more (suc fuel) term a text s held ns at =
     due-more text ns at _ (λ t ns′ at′.
     cond-more (is-close (t .kind)) (ended (close-list held (t .place)) ns′ at′) _ (still _ ns′ at′)
     (bound (term t ns′ at′) _ (a t ns′ at′) (λ part ns″ at″. bound (add-part s held part (t .place) ns″ at″) _ (adding-more s held part (t .place) ns″ at″) (λ held′ ns‴ at‴. parts-more fuel term a text s held′ ns‴ at‴))))
 
-listed-more : (term : Token → List Node → ℕ → Outcome ℕ) → Adds term → (text : List ℕ) (ns : List Node) (at : ℕ) → More ns (read-list term text ns at)
+listed-more : (term : Token → List Node → ℕ → Outcome ℕ) → Extends term → (text : List ℕ) (ns : List Node) (at : ℕ) → More ns (read-list term text ns at)
 listed-more term a text ns at =
     bound (read-sign text ns at) _ (due-more text ns at _ (λ t ns′ at′. signed-more t ns′ at′ (t .kind))) (λ s ns′ at′. parts-more (suc (length text)) term a text s Nothing ns′ at′)
 
 kind-more : (t : Token) (ns : List Node) (at : ℕ) (o : Outcome ℕ) (k : Kind) → More ns o → More ns (by-kind t ns at o k)
-kind-more t ns at o (Variable c) h = record { grows = entered-more ns (node.Variable c) }
+kind-more t ns at o (Variable c) h = record { grows = grown-more ns (node.Variable c) (find ns (node.Variable c)) }
 kind-more t ns at o Open h = h
 kind-more t ns at o Close h = still _ ns at
 kind-more t ns at o Plus h = still _ ns at
 kind-more t ns at o Star h = still _ ns at
 
-term-more : (left : ℕ) (text : List ℕ) → Adds (read-term left text)
-unfolding Adds
+term-more : (left : ℕ) (text : List ℕ) → Extends (read-term left text)
 term-more zero text t ns at = kind-more t ns at _ (t .kind) (still _ ns at)
 term-more (suc left) text t ns at = kind-more t ns at _ (t .kind) (listed-more (read-term left text) (term-more left text) text ns at)
 
-pub whole-more : (text : List ℕ) (ns : List Node) (at : ℕ) → More ns (read-whole text ns at)
-unfolding Adds
+whole-more : (text : List ℕ) (ns : List Node) (at : ℕ) → More ns (read-whole text ns at)
 whole-more text ns at =
     due-more text ns at _ (λ t ns′ at′. bound (read-term 16 text t ns′ at′) _ (term-more 16 text t ns′ at′) (λ k ns″ at″.
     bound (next text ns″ at″) _ (still _ ns″ _) (λ o ns‴ at‴. ended-or o (ended (Ok k) ns‴ at‴) _ (still _ ns‴ at‴) (λ extra. still _ ns‴ at‴))))

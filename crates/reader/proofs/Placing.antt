@@ -16,7 +16,7 @@ use Rattle.free_lattice.specs.Terms.{Term, var, meet, join, subterms}
 use Rattle.sheet.specs.declared.node.Node.{Node}
 use Rattle.sheet.specs.declared.node.Node.the-variants as node
 use Rattle.sheet.specs.Nodes.{find, fits, node-at, Grounded, Distinct, term-of, terms, term-at}
-use Rattle.sheet.proofs.Nodes.{found, not-found, grounded-more, distinct-more}
+use Rattle.sheet.proofs.Nodes.{found, not-found, order, grounded-more, distinct-more}
 use Rattle.sheet.proofs.Terms.{terms-length, terms-push, term-stays, term-is, parts-below, below-fits, code-fits, fits-more}
 use Rattle.sheet.proofs.Enter.{entered-old, entered-new}
 use Rattle.reader.specs.declared.reader.Sign.{Sign}
@@ -98,9 +98,6 @@ module _ (ts : List Term) (m : ℕ) (apart : (i j : ℕ) → i < m → j < m →
       ap₂ node.Join (apart a x (p .0) (q .0) cc) (apart b y (p .1) (q .1) cc)
 
 -- in grounded and distinct nodes no two terms are equal
-order : (k n : ℕ) → k < suc n → (k < n) ⊎ (k ≡ n)
-order k n h = grind arith
-
 module _ (ns : List Node) (grounded : Grounded ns) (distinct : Distinct ns) where
   abbrev Apart : ℕ → Type 0
   Apart m = (i j : ℕ) → i < m → j < m → term-at ns i ≡ term-at ns j → i ≡ j
@@ -117,9 +114,9 @@ module _ (ns : List Node) (grounded : Grounded ns) (distinct : Distinct ns) wher
   apart (suc m) le i j li lj e =
       let d = apart m (omega arith) in
       ⊎-elim
-      (λ li′. ⊎-elim (λ lj′. d i j li′ lj′ e) (λ ej. absurd (not-again m i d (omega arith) li′ (sym (e ∙ ap (term-at ns) ej)))) (order j m lj))
-      (λ ei. ⊎-elim (λ lj′. absurd (not-again m j d (omega arith) lj′ (sym (ap (term-at ns) ei) ∙ e))) (λ ej. ei ∙ sym ej) (order j m lj))
-      (order i m li)
+      (λ li′. ⊎-elim (λ lj′. d i j li′ lj′ e) (λ ej. absurd (not-again m i d (omega arith) li′ (sym (e ∙ ap (term-at ns) ej)))) (order j m (omega arith)))
+      (λ ei. ⊎-elim (λ lj′. absurd (not-again m j d (omega arith) lj′ (sym (ap (term-at ns) ei) ∙ e))) (λ ej. ei ∙ sym ej) (order j m (omega arith)))
+      (order i m (omega arith))
 
   -- so a node that is not there has a term that is not there
   missing : (n : Node) → find ns n ≡ None → fits (length ns) n ≡ true → Has (terms ns) (term-of (terms ns) n) → ⊥

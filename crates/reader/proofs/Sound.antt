@@ -72,32 +72,32 @@ module _ {A : Type 0} (text : List ℕ) (ns : List Node) (at : ℕ) (k : Token �
       go (Err x) e i = absurd (err-clash _ a ns ns′ _ at′ i)
 
 -- entering a node, with room and without
-pub record Entered (n : Node) (ns : List Node) (at k : ℕ) (ns′ : List Node) (at′ : ℕ) : Type 0 where
+pub record Entry (n : Node) (ns : List Node) (at k : ℕ) (ns′ : List Node) (at′ : ℕ) : Type 0 where
   pub nodes : ns′ ≡ put ns n .nodes
   pub number : k ≡ put ns n .number
   pub place : at′ ≡ at
   pub few : length ns′ ≤ 60
 
 module _ (n : Node) (p : ℕ) (ns : List Node) (at : ℕ) where
-  entered-is : (k : ℕ) (ns′ : List Node) (at′ : ℕ) → length ns ≤ 60 → enter-at n p ns at ≡ ended (Ok k) ns′ at′ → Entered n ns at k ns′ at′
+  entered-is : (k : ℕ) (ns′ : List Node) (at′ : ℕ) → length ns ≤ 60 → enter-at n p ns at ≡ ended (Ok k) ns′ at′ → Entry n ns at k ns′ at′
   entered-is k ns′ at′ le h = go (find ns n) refl h
     where
-      record-at : (o : Option ℕ) → find ns n ≡ o → ns′ ≡ put-by ns n o .nodes → k ≡ put-by ns n o .number → at′ ≡ at → length ns′ ≤ 60 → Entered n ns at k ns′ at′
+      record-at : (o : Option ℕ) → find ns n ≡ o → ns′ ≡ put-by ns n o .nodes → k ≡ put-by ns n o .number → at′ ≡ at → length ns′ ≤ 60 → Entry n ns at k ns′ at′
       record-at o e a b c d = record { nodes = a ∙ ap (λ x. put-by ns n x .nodes) (sym e); number = b ∙ ap (λ x. put-by ns n x .number) (sym e); place = c; few = d }
 
-      room : (x : Bool) → ltb (length ns) 60 ≡ x → find ns n ≡ None → ended (placed-at p (cond x (Ok (length ns)) (Err (refused 8 [])))) (cond x (ns ++ n ∷ []) ns) at ≡ ended (Ok k) ns′ at′ → Entered n ns at k ns′ at′
+      room : (x : Bool) → ltb (length ns) 60 ≡ x → find ns n ≡ None → ended (placed-at p (cond x (Ok (length ns)) (Err (refused 8 [])))) (cond x (ns ++ n ∷ []) ns) at ≡ ended (Ok k) ns′ at′ → Entry n ns at k ns′ at′
       room true t e i =
           let s = same (length ns) k (ns ++ n ∷ []) ns′ at at′ i in
           let lt : length ns < 60 = grind (arith, tells) in
           record-at None e (sym (s .nodes)) (sym (s .value)) (sym (s .place)) (omega (arith, ap length (s .nodes), length-push ns n))
       room false t e i = absurd (err-clash _ k ns ns′ at at′ i)
 
-      go : (o : Option ℕ) → find ns n ≡ o → ended (placed-at p (numbered ns o)) (grown ns n o) at ≡ ended (Ok k) ns′ at′ → Entered n ns at k ns′ at′
+      go : (o : Option ℕ) → find ns n ≡ o → ended (placed-at p (numbered ns o)) (grown ns n o) at ≡ ended (Ok k) ns′ at′ → Entry n ns at k ns′ at′
       go (Some j) e i = let s = same j k ns ns′ at at′ i in record-at (Some j) e (sym (s .nodes)) (sym (s .value)) (sym (s .place)) (omega (arith, ap length (s .nodes)))
       go None e i = room (ltb (length ns) 60) refl e i
 
 -- a term that was read is written
-pub record Taken (left : ℕ) (text : List ℕ) (t : Token) (ns : List Node) (at k : ℕ) (ns′ : List Node) (at′ : ℕ) : Type 0 where
+pub record TermRead (left : ℕ) (text : List ℕ) (t : Token) (ns : List Node) (at k : ℕ) (ns′ : List Node) (at′ : ℕ) : Type 0 where
   pub tree : Tree
   pub rest : List Kind
   pub are : tokens tree ≡ t .kind ∷ rest
@@ -108,7 +108,7 @@ pub record Taken (left : ℕ) (text : List ℕ) (t : Token) (ns : List Node) (at
   pub few : length ns′ ≤ 60
 
 abbrev Sound : ℕ → List ℕ → (Token → List Node → ℕ → Outcome ℕ) → Type 0
-Sound left text read = (t : Token) (ns : List Node) (at k : ℕ) (ns′ : List Node) (at′ : ℕ) → length ns ≤ 60 → read t ns at ≡ ended (Ok k) ns′ at′ → Taken left text t ns at k ns′ at′
+Sound left text read = (t : Token) (ns : List Node) (at k : ℕ) (ns′ : List Node) (at′ : ℕ) → length ns ≤ 60 → read t ns at ≡ ended (Ok k) ns′ at′ → TermRead left text t ns at k ns′ at′
 
 -- what a list has held so far: its tokens js, its nodes ns, from the nodes ns₀ on
 pub record HasOne (left : ℕ) (ns₀ : List Node) (i : ℕ) (js : List Kind) (ns : List Node) : Type 0 where
@@ -133,7 +133,7 @@ SoFar left s ns₀ (Several i) js ns = HasSeveral left s ns₀ i js ns
 module _ (left : ℕ) (s : Sign) (ns₀ : List Node) where
   -- two terms are there, and their pair is entered
   joined : (a b : Term) (i part : ℕ) (ns ns₁ ns₂ : List Node) (k at at₂ : ℕ) → ns ≡ placed ns₀ a .nodes → i ≡ placed ns₀ a .number → ns₁ ≡ placed ns b .nodes → part ≡ placed ns b .number
-      → Entered (pair s i part) ns₁ at k ns₂ at₂ → (ns₂ ≡ placed ns₀ (combine s a b) .nodes) × (k ≡ placed ns₀ (combine s a b) .number)
+      → Entry (pair s i part) ns₁ at k ns₂ at₂ → (ns₂ ≡ placed ns₀ (combine s a b) .nodes) × (k ≡ placed ns₀ (combine s a b) .number)
   joined a b i part ns ns₁ ns₂ k at at₂ e₁ e₂ e₃ e₄ n =
       let u : ns₁ ≡ placed (placed ns₀ a .nodes) b .nodes = e₃ ∙ ap (λ l. placed l b .nodes) e₁ in
       let v : part ≡ placed (placed ns₀ a .nodes) b .number = e₄ ∙ ap (λ l. placed l b .number) e₁ in
@@ -145,7 +145,7 @@ module _ (left : ℕ) (s : Sign) (ns₀ : List Node) where
     pub few : length ns ≤ 60
     pub place : at′ ≡ at
 
-  pub several-is : (n : Node) (p : ℕ) (ns : List Node) (at : ℕ) (held : Held) (ns′ : List Node) (at′ : ℕ) → length ns ≤ 60 → several (enter-at n p ns at) ≡ ended (Ok held) ns′ at′ → (k : ℕ) × (held ≡ Several k) × Entered n ns at k ns′ at′
+  pub several-is : (n : Node) (p : ℕ) (ns : List Node) (at : ℕ) (held : Held) (ns′ : List Node) (at′ : ℕ) → length ns ≤ 60 → several (enter-at n p ns at) ≡ ended (Ok held) ns′ at′ → (k : ℕ) × (held ≡ Several k) × Entry n ns at k ns′ at′
   several-is n p ns at held ns′ at′ le h =
       let b = bound (enter-at n p ns at) (λ k ns₁ at₁. ended (Ok (Several k)) ns₁ at₁) held ns′ at′ h in
       let e = entered-is n p ns at (b .value) (b .nodes) (b .place) le (b .first) in
@@ -273,7 +273,7 @@ signed-is t ns at Close s ns′ at′ h = absurd (err-clash _ s ns ns′ at at�
 signed-is t ns at (Variable c) s ns′ at′ h = absurd (err-clash _ s ns ns′ at at′ h)
 
 open-list : (left : ℕ) (text : List ℕ) (read : Token → List Node → ℕ → Outcome ℕ) → Sound left text read → (t : Token) → t .kind ≡ Open → (ns : List Node) (at k : ℕ) (ns′ : List Node) (at′ : ℕ) → length ns ≤ 60
-    → read-list read text ns at ≡ ended (Ok k) ns′ at′ → Taken (suc left) text t ns at k ns′ at′
+    → read-list read text ns at ≡ ended (Ok k) ns′ at′ → TermRead (suc left) text t ns at k ns′ at′
 open-list left text read sound t is ns at k ns′ at′ le h =
     let b = bound (read-sign text ns at) (λ s. read-parts (suc (length text)) read text s Nothing) k ns′ at′ h in
     let c = came text ns at (λ t₁ ns₁ at₁. sign-of t₁ ns₁ at₁ (t₁ .kind)) (b .value) (b .nodes) (b .place) (b .first) in
@@ -294,8 +294,8 @@ open-list left text read sound t is ns at k ns′ at′ le h =
     }
 
 kind-sound : (left : ℕ) (text : List ℕ) (t : Token) (ns : List Node) (at : ℕ) (o : Outcome ℕ) → length ns ≤ 60
-    → (t .kind ≡ Open → (k : ℕ) (ns′ : List Node) (at′ : ℕ) → o ≡ ended (Ok k) ns′ at′ → Taken left text t ns at k ns′ at′)
-    → (x : Kind) → t .kind ≡ x → (k : ℕ) (ns′ : List Node) (at′ : ℕ) → by-kind t ns at o x ≡ ended (Ok k) ns′ at′ → Taken left text t ns at k ns′ at′
+    → (t .kind ≡ Open → (k : ℕ) (ns′ : List Node) (at′ : ℕ) → o ≡ ended (Ok k) ns′ at′ → TermRead left text t ns at k ns′ at′)
+    → (x : Kind) → t .kind ≡ x → (k : ℕ) (ns′ : List Node) (at′ : ℕ) → by-kind t ns at o x ≡ ended (Ok k) ns′ at′ → TermRead left text t ns at k ns′ at′
 kind-sound left text t ns at o le f (Variable c) e k ns′ at′ h =
     let n = entered-is (node.Variable c) (t .place) ns at k ns′ at′ le h in
     record { tree = leaf c; rest = []; are = ap (λ x. x ∷ []) (sym e); shallow = omega arith; spelled = λ ks sp. subst (λ m. Spelled (drop m text) ks) (n .place) sp; nodes = n .nodes; number = n .number; few = n .few }

@@ -90,7 +90,7 @@ clash z = grind arith
 pub not-found : (ns : List Node) (k : ℕ) (n : Node) → find ns n ≡ None → k < length ns → node-at ns k ≡ n → ⊥
 not-found ns k n none lt e = clash (sym (ap (λ x. isSome (find ns x)) (sym e) ∙ finds ns 0 k lt) ∙ ap isSome none)
 
-order : (k n : ℕ) → k < n + 1 → (k < n) ⊎ (k ≡ n)
+pub order : (k n : ℕ) → k < n + 1 → (k < n) ⊎ (k ≡ n)
 order k n h = grind arith
 
 -- one node more

@@ -40,8 +40,10 @@ inside-more n k m h le i j l = h i j (omega arith)
 pub nodes-length : (rs : List Record) → length (nodes rs) ≡ length rs
 nodes-length rs = length-map rs (λ (r : Record). r .node)
 
-pub node-is : (rs : List Record) (k : ℕ) → getD rs k (fresh (Variable 0)) .node ≡ node-at (nodes rs) k
-node-is rs k = sym (List·getD-map (λ (r : Record). r .node) rs k (fresh (Variable 0)))
+-- what is known of a record that is looked at
+pub looked : (rs items : List Record) (k : ℕ) → items ≡ rs → k < length items → (k < length (nodes rs)) × (getD items k (fresh (Variable 0)) .node ≡ node-at (nodes rs) k)
+looked rs items k same lt =
+    (omega (arith, ap length same, nodes-length rs), ap (λ l. getD l k (fresh (Variable 0)) .node) same ∙ sym (List·getD-map (λ (r : Record). r .node) rs k (fresh (Variable 0))))
 
 -- the low bits of a word
 low-bit : (w n j : ℕ) → j < n → bit (w % 2 ^ n) j ≡ bit w j
