@@ -25,7 +25,7 @@ use Rattle.reader.specs.declared.reader.Sign.the-variants as sign
 use Rattle.reader.specs.declared.reader.Held.{Held}
 use Rattle.reader.specs.declared.reader.Held.the-variants.{Nothing, One, Several}
 use Rattle.reader.specs.Cutting.{behind, blanks}
-use Rattle.reader.specs.Reading.{Outcome, ended, bind, refuse, next, or-end, enter-at, placed-at, sign-of, pair, several, add-part, close-list, is-close, read-parts, read-list, by-kind, read-term, read-whole}
+use Rattle.reader.specs.Reading.{Outcome, ended, bind, refuse, or-end, enter-at, placed-at, sign-of, pair, several, add-part, close-list, is-close, read-parts, read-list, by-kind, read-term, read-end, read-whole}
 use Rattle.reader.specs.Grammar.{Tree, Parts, leaf, list, two, more, combine, term, folded, sign-kind, tokens, all-tokens, depth, depths, Spelled, Written}
 use Rattle.reader.proofs.Spelling.{next-cut}
 use Rattle.reader.proofs.Reading.{due-some}
@@ -250,7 +250,7 @@ whole-complete text ns tree wr fit =
     let at₂ : ℕ = d .place in
     let m = next-cut text at₂ [] (d .spelled) in (
       behind at₂ (drop at₂ text),
-      due-some text ns 0 (λ t′ ns′ at′. bind (read-term 16 text t′ ns′ at′) (λ k ns″ at″. bind (next text ns″ at″) (λ o ns‴ at‴. or-end o (ended (Ok k) ns‴ at‴) (λ extra. refuse 7 (extra .place) ns‴ at‴)))) t (n .0)
-          ∙ ap (λ o′. bind o′ (λ k ns″ at″. bind (next text ns″ at″) (λ o ns‴ at‴. or-end o (ended (Ok k) ns‴ at‴) (λ extra. refuse 7 (extra .place) ns‴ at‴)))) (d .is)
+      due-some text ns 0 (λ t′ ns′ at′. bind (read-term 16 text t′ ns′ at′) (read-end text)) t (n .0)
+          ∙ ap (λ o′. bind o′ (read-end text)) (d .is)
           ∙ ap (λ r. bind (ended r (w .nodes) (behind at₂ (drop at₂ text))) (λ o ns‴ at‴. or-end o (ended (Ok (w .number)) ns‴ at‴) (λ extra. refuse 7 (extra .place) ns‴ at‴))) m,
     )

@@ -26,7 +26,7 @@ use Rattle.reader.specs.declared.reader.Held.{Held}
 use Rattle.reader.specs.declared.reader.Held.the-variants.{Nothing, One, Several}
 use Rattle.reader.specs.Faults.{by-sheet}
 use Rattle.reader.specs.Cutting.{behind, blanks}
-use Rattle.reader.specs.Reading.{Outcome, ended, bind, refuse, next, or-end, enter-at, placed-at, pair, several, add-part, close-list, is-close, read-parts, read-list, by-kind, read-term, read-whole}
+use Rattle.reader.specs.Reading.{Outcome, ended, bind, refuse, enter-at, placed-at, pair, several, add-part, close-list, is-close, read-parts, read-list, by-kind, read-term, read-end, read-whole}
 use Rattle.reader.specs.Grammar.{Tree, Parts, leaf, list, two, more, combine, term, folded, sign-kind, tokens, all-tokens, depth, depths, Spelled, Written}
 use Rattle.reader.proofs.Spelling.{next-cut}
 use Rattle.reader.proofs.Reading.{due-some}
@@ -149,5 +149,5 @@ whole-over text ns tree wr le lt =
     let t : Token = record { kind = head-of tree; place = 0 + blanks text } in
     let n = next-cut text 0 (head-of tree ∷ (rest-of tree ++ [])) (subst (λ l. Spelled text l) (split tree ∙ ap (λ l. head-of tree ∷ l) (sym (append-nil (rest-of tree)))) (wr .spelled)) in
     fails-at
-    (due-some text ns 0 (λ t′ ns′ at′. bind (read-term 16 text t′ ns′ at′) (λ k ns″ at″. bind (next text ns″ at″) (λ o ns‴ at‴. or-end o (ended (Ok k) ns‴ at‴) (λ extra. refuse 7 (extra .place) ns‴ at‴)))) t (n .0))
+    (due-some text ns 0 (λ t′ ns′ at′. bind (read-term 16 text t′ ns′ at′) (read-end text)) t (n .0))
     (fails-bind (read-term 16 text t ns at₁) _ (term-over tree 16 (wr .shallow) text t ns at₁ [] refl (n .1) le lt))

@@ -19,7 +19,7 @@ use Rattle.reader.specs.declared.reader.Held.the-variants.{Nothing}
 use Rattle.sheet.specs.declared.node.Node.the-variants as node
 use Rattle.reader.specs.Faults.{Row}
 use Rattle.reader.specs.Cutting.{cut, behind}
-use Rattle.reader.specs.Reading.{Outcome, ended, bind, refuse, next, or-end, due, add-part, close-list, is-close, read-parts, read-term, read-sign, read-list, by-kind, enter-at, read-whole}
+use Rattle.reader.specs.Reading.{Outcome, ended, bind, refuse, or-end, due, add-part, close-list, is-close, read-parts, read-term, read-sign, read-list, by-kind, enter-at, read-end, read-whole}
 
 module _ {A : Type 0} (text : List ℕ) (ns : List Node) (at : ℕ) (k : Token → List Node → ℕ → Outcome A) where
   abbrev pub to : Result (Option Token) Row → Outcome A
@@ -148,21 +148,12 @@ module _ (text : List ℕ) (t : Token) (ns : List Node) (at : ℕ) where
 
 -- a whole text
 module _ {text : List ℕ} {at : ℕ} {t : Token} {text₁ : List ℕ} {at₁ : ℕ} (k : Took text at t text₁ at₁) (ns : List Node) where
-  abbrev last : ℕ → Outcome (Option Token) → Outcome ℕ
-  last n x = bind x (λ o ns′ at′. or-end o (ended (Ok n) ns′ at′) (λ extra. refuse 7 (extra .place) ns′ at′))
-
-  abbrev tail : ℕ → List Node → ℕ → Outcome ℕ
-  tail n ns′ at′ = last n (next text ns′ at′)
-
-  first : (o : Outcome ℕ) → o ≡ read-term 16 text₁ t ns at₁ → bind o tail ≡ read-whole text ns at
-  first o e = ap (λ x. bind x tail) (e ∙ took-term k 16 ns) ∙ due-is text ns at (λ t′ ns′ at′. bind (read-term 16 text t′ ns′ at′) tail) (Ok (Some t)) (k .token)
+  first : (o : Outcome ℕ) → o ≡ read-term 16 text₁ t ns at₁ → bind o (read-end text) ≡ read-whole text ns at
+  first o e = ap (λ x. bind x (read-end text)) (e ∙ took-term k 16 ns) ∙ due-is text ns at (λ t′ ns′ at′. bind (read-term 16 text t′ ns′ at′) (read-end text)) (Ok (Some t)) (k .token)
 
   pub whole-term : (e : Row) (ns₂ : List Node) (at₂ : ℕ) → ended (Err e) ns₂ at₂ ≡ read-term 16 text₁ t ns at₁ → ended (Err e) ns₂ at₂ ≡ read-whole text ns at
   whole-term e ns₂ at₂ o = first (ended (Err e) ns₂ at₂) o
 
-  -- the cutter, which holds text₂, is asked once more, and answers r
-  pub whole-last : (n : ℕ) (ns₂ : List Node) (text₂ : List ℕ) (at₂ : ℕ) → ended (Ok n) ns₂ at₂ ≡ read-term 16 text₁ t ns at₁ → text₂ ≡ text₁
-      → (r : Result (Option Token) Row) (at₃ : ℕ) → r ≡ cut at₂ (drop at₂ text₂) → at₃ ≡ behind at₂ (drop at₂ text₂) → last n (ended r ns₂ at₃) ≡ read-whole text ns at
-  whole-last n ns₂ text₂ at₂ o same r at₃ answer past =
-      let all = same ∙ k .same in
-      ap (last n) (ended-eq (answer ∙ ap (λ x. cut at₂ (drop at₂ x)) all) refl (past ∙ ap (λ x. behind at₂ (drop at₂ x)) all)) ∙ first (ended (Ok n) ns₂ at₂) o
+  -- the cutter then holds text₂
+  pub whole-end : (n : ℕ) (ns₂ : List Node) (text₂ : List ℕ) (at₂ : ℕ) → ended (Ok n) ns₂ at₂ ≡ read-term 16 text₁ t ns at₁ → text₂ ≡ text₁ → read-end text₂ n ns₂ at₂ ≡ read-whole text ns at
+  whole-end n ns₂ text₂ at₂ o same = ap (λ x. read-end x n ns₂ at₂) (same ∙ k .same) ∙ first (ended (Ok n) ns₂ at₂) o

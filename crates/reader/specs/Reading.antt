@@ -5,7 +5,7 @@
 --   enter-at n p        the node n is entered, as a part that begins at p
 --   read-sign           the sign of a list
 --   add-part            one more part of a list is joined, or met, to what the list holds
---   read-parts, read-list, read-term, read-whole     the parts of a list, a list, a term, a text
+--   read-parts, read-list, read-term, read-end, read-whole     the parts of a list, a list, a term, the end of the text, a text
 --   reading S text      the sheet S after the text was read, and the answer
 use mathlib.Core.Bool.{Bool, true, false, cond}
 use mathlib.Core.List.{List}
@@ -125,11 +125,13 @@ abbrev pub read-term : ℕ → List ℕ → Token → List Node → ℕ → Outc
 read-term zero text t ns at = by-kind t ns at (refuse 5 (t .place) ns at) (t .kind)
 read-term (suc left) text t ns at = by-kind t ns at (read-list (read-term left text) text ns at) (t .kind)
 
--- one term with at most 16 brackets open, and fault 7 where a token follows it
+-- the end of the text behind the term, which is node k: fault 7 where a token follows
+abbrev pub read-end : List ℕ → ℕ → List Node → ℕ → Outcome ℕ
+read-end text k ns at = bind (next text ns at) (λ o ns′ at′. or-end o (ended (Ok k) ns′ at′) (λ extra. refuse 7 (extra .place) ns′ at′))
+
+-- one term with at most 16 brackets open, and the end
 abbrev pub read-whole : List ℕ → List Node → ℕ → Outcome ℕ
-read-whole text ns at =
-    due text ns at (λ t ns′ at′. bind (read-term 16 text t ns′ at′) (λ k ns″ at″.
-    bind (next text ns″ at″) (λ o ns‴ at‴. or-end o (ended (Ok k) ns‴ at‴) (λ extra. refuse 7 (extra .place) ns‴ at‴))))
+read-whole text ns at = due text ns at (λ t ns′ at′. bind (read-term 16 text t ns′ at′) (read-end text))
 
 -- a refused read leaves the sheet as it was
 abbrev pub finished : State → Outcome ℕ → State × Result ℕ Row

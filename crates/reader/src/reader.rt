@@ -8,7 +8,7 @@ ghost use Rattle.sheet.specs.Nodes.{find, fits};
 ghost use Rattle.sheet.specs.Enter.{numbered, grown};
 ghost use Rattle.sheet.specs.View.{state, nodes-of, memo-of};
 ghost use Rattle.reader.specs.Faults.{number-of, row, told, by-reader};
-ghost use Rattle.reader.specs.Reading.{ended, placed-at, read-sign, add-part, close-list, read-term, read-list, read-whole, reading, Known, Within};
+ghost use Rattle.reader.specs.Reading.{ended, placed-at, read-sign, add-part, close-list, read-term, read-list, read-end, read-whole, reading, Known, Within};
 ghost use Rattle.reader.specs.Exact.{Exact};
 use crate::cutter::Cutter;
 use crate::fault::Cause;
@@ -149,6 +149,16 @@ fn list(cutter: &mut Cutter, sheet: &mut Sheet, left: usize) -> Result<usize, Fa
     }
 }
 
+// The end of the text behind its term, which is `node`.
+fn end(cutter: &mut Cutter, node: usize) -> Result<usize, Fault>
+    ensures outcome { λ r. ⌜ ((ns : List Node) → ended (told r) ns (now (cutter .exit) .at) ≡ read-end (now (cutter .entry) .text .now) node ns (now (cutter .entry) .at)) ⌝ }
+{
+    let Some(extra) = cutter.next()? else {
+        return Ok(node);
+    };
+    Err(fault(Cause::Trailing, extra.place))
+}
+
 // The one term of a text.
 fn whole(cutter: &mut Cutter, sheet: &mut Sheet) -> Result<usize, Fault>
     ensures outcome { λ r. ⌜ ended (told r) (nodes-of (now (sheet .exit))) (now (cutter .exit) .at) ≡ read-whole (now (cutter .entry) .text .now) (nodes-of (now (sheet .entry))) (now (cutter .entry) .at) ⌝ }
@@ -158,10 +168,7 @@ fn whole(cutter: &mut Cutter, sheet: &mut Sheet) -> Result<usize, Fault>
         return Err(fault(Cause::Unfinished, cutter.len()));
     };
     let node = term(cutter, sheet, token, DEEPEST)?;
-    let Some(extra) = cutter.next()? else {
-        return Ok(node);
-    };
-    Err(fault(Cause::Trailing, extra.place))
+    end(cutter, node)
 }
 
 // Enters the term that a text writes, and answers its node. A refused text leaves the sheet as it was.
