@@ -1,4 +1,6 @@
 // The desk that a script works on: a sheet, a draft and a frame, and what each command does to them.
+#![tactic(auto)]
+
 mod answer;
 mod chosen;
 mod desk;

@@ -1,4 +1,6 @@
 // The lattice of the divisors of a number.
+#![tactic(auto)]
+
 mod common;
 mod divisors;
 mod refusal;

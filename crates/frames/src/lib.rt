@@ -1,4 +1,6 @@
 // Small lattices drawn by the user: drafts, and the frames that they close to.
+#![tactic(auto)]
+
 mod draft;
 mod frame;
 mod order;

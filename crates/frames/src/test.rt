@@ -13,7 +13,7 @@ pub(crate) trait Test {
 
 // The first pair that passes.
 pub(crate) fn first_pair<T: Test>(t: &T) -> Option<(u8, u8)>
-    ensures { result ≡ first_pair (says t.now) }
+    ensures { result ≡ first_pair (T.says t.now) }
 {
     for q in 0..64u8 {
         if t.test(q / 8, q % 8) {
@@ -25,7 +25,7 @@ pub(crate) fn first_pair<T: Test>(t: &T) -> Option<(u8, u8)>
 
 // The word with the bits of the pairs that pass.
 pub(crate) fn word_of<T: Test>(t: &T) -> u64
-    ensures { result ≡ word (says t.now) }
+    ensures { result ≡ word (T.says t.now) }
 {
     let mut word: u64 = 0;
     for q in 0..64u8 {

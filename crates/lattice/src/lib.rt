@@ -1,4 +1,6 @@
 // Lattices behind one interface, and the lattice of sets.
+#![tactic(auto)]
+
 mod lattice;
 mod sets;
 

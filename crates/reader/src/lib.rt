@@ -1,4 +1,6 @@
 // Reading written terms onto a sheet.
+#![tactic(auto)]
+
 mod cutter;
 mod fault;
 mod name;

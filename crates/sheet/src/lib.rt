@@ -1,4 +1,6 @@
 // The sheet: terms as numbered nodes, and the pairs of nodes that are settled.
+#![tactic(auto)]
+
 mod node;
 mod refusal;
 mod sheet;

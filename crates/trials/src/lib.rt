@@ -1,4 +1,6 @@
 // Trials of entering nodes and of reading texts: calls, and what each has to answer, worked out by hand.
+#![tactic(auto)]
+
 #[cfg(test)]
 mod cutter;
 #[cfg(test)]

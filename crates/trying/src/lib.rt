@@ -1,4 +1,6 @@
 // Trying an inequality of two nodes in a lattice that the user brings.
+#![tactic(auto)]
+
 mod refusal;
 mod trying;
 

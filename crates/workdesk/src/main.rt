@@ -1,4 +1,6 @@
 // The worksheet over a desk: reads a script of commands, and writes an answer line for each.
+#![tactic(auto)]
+
 mod script;
 
 use anyhow::anyhow;

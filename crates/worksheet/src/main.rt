@@ -1,4 +1,6 @@
 // The worksheet: reads a script of commands, and writes an answer line for each.
+#![tactic(auto)]
+
 mod answer;
 mod command;
 mod lines;

@@ -18,4 +18,4 @@ returns-then-g-eq0 c =
 pub returns : goal.returns
 returns c =
     let is : c.args.a / c.gcd-g.result * c.args.b ≡ lcm c.args.a c.args.b = ap (λ g. c.args.a / g * c.args.b) c.gcd-g.ensures in
-    subst (λ l. SomeIff c.checked-mul.result (l < 2 ^ 32) l) is c.checked-mul.ensures
+    subst (λ l. SomeIff c.checked_mul.result (l < 2 ^ 32) l) is c.checked_mul.ensures

@@ -16,7 +16,7 @@ returns-then-is-best c =
 pub loop-c-preserved : goal.loop-c-preserved
 loop-c-preserved c =
     first_more c.loop-c.c (best c.args.n c.args.order c.args.up c.args.a c.args.b)
-    c.loop-c.invariant (sym c.is-best.ensures ∙ c.if-is-best.false)
+    c.loop-c.invariant (sym c.is_best.ensures ∙ c.if-is_best.false)
 
 pub returns : goal.returns
 unfolding bound

@@ -8,7 +8,7 @@ use Rattle.frames.proofs.order.is_best.Goals as goal
 pub loop-d-preserved : goal.loop-d-preserved
 loop-d-preserved c =
     every_more c.loop-d.d (follows c.args.order c.args.up c.args.a c.args.b c.args.c) c.loop-d.invariant
-    (sym c.stays-below.ensures ∙ c.if-not-stays-below.false)
+    (sym c.stays_below.ensures ∙ c.if-not-stays_below.false)
 
 pub returns-then-not-stays-below : goal.returns-then-not-stays-below
 returns-then-not-stays-below c =

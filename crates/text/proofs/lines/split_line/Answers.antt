@@ -11,12 +11,12 @@ returns-then-is-empty c =
 
 pub returns-in-empty : goal.returns-in-empty
 returns-in-empty c =
-    let told = c.split-at.ensures in
+    let told = c.split_at.ensures in
     let value = last_first c.args.script.now _ _ c.until.result (search rules) c.until.ensures.value told.front told.back (search rules) in
     record { value = value; lines = lines_first c.args.script.now ∙ ap (spread lines_of) (sym value); shorter = search rules }
 
 pub returns-in-len1-up : goal.returns-in-len1-up
 returns-in-len1-up c =
-    let told = c.split-at.ensures in
+    let told = c.split_at.ensures in
     let value = fed_first c.args.script.now _ _ _ c.until.result (search rules) c.until.ensures.value told.front told.back (search rules) c.chomp.ensures in
     record { value = value; lines = lines_first c.args.script.now ∙ ap (spread lines_of) (sym value); shorter = search rules }

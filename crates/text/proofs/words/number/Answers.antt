@@ -10,7 +10,7 @@ returns-in-err-n c =
     ∙ numeral_figures c.args.word.now (search rules)
 
 pub loop-b-preserved : goal.loop-b-preserved
-loop-b-preserved c = figures_more c.loop-b.n c.args.word.now c.loop-b.b-index (Some c.in-ok-n.n) (omega arith) c.in-ok-n.ensures c.loop-b.invariant
+loop-b-preserved c = figures_more c.loop-b.n c.args.word.now c.loop-b.b-index (Some c.in_ok-n.n) (omega arith) c.in_ok-n.ensures c.loop-b.invariant
 
 pub returns : goal.returns
 returns c =

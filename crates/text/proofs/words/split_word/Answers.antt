@@ -10,6 +10,6 @@ returns-then-is-empty c =
 
 pub returns : goal.returns
 returns c =
-    let told = c.split-at.ensures in
+    let told = c.split_at.ensures in
     let value = split_first c.trim-words.result.now _ _ c.until.result (search rules) c.until.ensures.value told.front told.back ∙ ap first_of c.trim-words.ensures in
     record { value = value; words = words_first c.args.line.now ∙ ap (spread words_of) (sym value); shorter = first_shorter c.args.line.now _ _ value }

@@ -20,7 +20,7 @@ returns c =
     let b = c.args.b in
     let d = c.args.self.now in
     let fits = lcm_small d.n a b d.positive d.small in
-    let is : a ∣ d.n → b ∣ d.n → c.unwrap-or.result ≡ lcm a b = λ p q. c.unwrap-or.ensures ∙ value_of_checked c.lcm.result 0 (fits p q) c.lcm.ensures in
+    let is : a ∣ d.n → b ∣ d.n → c.unwrap_or.result ≡ lcm a b = λ p q. c.unwrap_or.ensures ∙ value_of_checked c.lcm.result 0 (fits p q) c.lcm.ensures in
     record {
       joins = is;
       law = λ p q. subst (LeastCommonMultiple a b) (sym (is p q)) (lcm_least a b (pos_of_dvd_of_pos p d.positive));

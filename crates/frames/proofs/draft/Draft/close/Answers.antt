@@ -38,15 +38,15 @@ invariant-of-result c =
 pub returns-in-None : goal.returns-in-None
 returns-in-None c =
     let D = draft_of c.args.self in
-    let w = c.closure-of-order.result in
-    let does = granted D w c.closure-of-order.ensures c.in-None.ensures in
+    let w = c.closure_of-order.result in
+    let does = granted D w c.closure_of-order.ensures c.in-None.ensures in
     record { does = does; law = drawn_of D c.args.self.few (record { size = D.size; order = w }) does }
 
 pub returns-in-Some : goal.returns-in-Some
 returns-in-Some c =
     let D = draft_of c.args.self in
     let f = c.in-Some.refusal in
-    let amiss = found D c.closure-of-order.result (Some f) c.closure-of-order.ensures c.in-Some.ensures in
+    let amiss = found D c.closure_of-order.result (Some f) c.closure_of-order.ensures c.in-Some.ensures in
     record {
       does = ap (closing_by D (closure D.size D.lines)) amiss;
       law = reason_of D c.args.self.few f amiss;

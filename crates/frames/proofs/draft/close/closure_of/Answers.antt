@@ -5,11 +5,11 @@ use Rattle.frames.proofs.Chains.{chained_none, chained_more}
 use Rattle.frames.proofs.draft.close.closure_of.Goals as goal
 
 pub loop-k-init : goal.loop-k-init
-loop-k-init c = c.word-of-order.ensures ∙ sym (chained_none (word (begun c.args.n c.args.lines)))
+loop-k-init c = c.word_of-order.ensures ∙ sym (chained_none (word (begun c.args.n c.args.lines)))
 
 pub loop-k-preserved : goal.loop-k-preserved
 loop-k-preserved c =
-    c.word-of-order-in-loop-k.ensures ∙ ap (λ w. word (linked w c.loop-k.k)) c.loop-k.invariant
+    c.word_of-order-in-loop-k.ensures ∙ ap (λ w. word (linked w c.loop-k.k)) c.loop-k.invariant
     ∙ sym (chained_more c.loop-k.k (word (begun c.args.n c.args.lines)))
 
 pub returns : goal.returns

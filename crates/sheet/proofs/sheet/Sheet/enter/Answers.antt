@@ -15,7 +15,7 @@ returns-in-Some c =
     let S = state c.args.self.now in
     let there = sym c.in-Some.ensures in
     record {
-      does = entering_old S c.args.node (sym c.in-ok-judge.ensures) c.in-Some.k there;
+      does = entering_old S c.args.node (sym c.in_ok-judge.ensures) c.in-Some.k there;
       law = entered_old S.nodes c.args.node c.in-Some.k c.args.self.now.grounded there;
     }
 
@@ -50,12 +50,12 @@ returns c =
     let S = state sheet in
     let rs = vec_items sheet.records in
     let n = c.args.node in
-    let items : vec_items c.push-reserved.new.self ≡ rs ++ fresh n ∷ [] = c.push-reserved.ensures.items ∙ ap (λ r. rs ++ r ∷ []) c.new.ensures in
+    let items : vec_items c.push_reserved.new.self ≡ rs ++ fresh n ∷ [] = c.push_reserved.ensures.items ∙ ap (λ r. rs ++ r ∷ []) c.new.ensures in
     let all = ap nodes items ∙ nodes_push rs n in
     let settled = ap memo items ∙ memo_push rs n in
     let number = c.count-k.ensures in
     let room : count S < 60 = omega (arith, at_most sheet, c.if-k-eq-MOST.false) in
     record {
-      does = (λ i. (record { nodes = all i; memo = settled i }, Ok (number i))) ∙ entering_new S n (sym c.in-ok-judge.ensures) (sym c.in-default.ensures) room;
+      does = (λ i. (record { nodes = all i; memo = settled i }, Ok (number i))) ∙ entering_new S n (sym c.in_ok-judge.ensures) (sym c.in_default.ensures) room;
       law = subst₂ (λ l k. Entered S.nodes n l k) (sym all) (sym number) (entered_new S.nodes n);
     }
