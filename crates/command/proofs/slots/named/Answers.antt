@@ -13,6 +13,6 @@ loop-word-preserved c =
     let new = c.assign.new.slots in
     let w = c.in-Some.word.now in
     let ws = words_of c.in-Some.more.now in
-    let long = c.assign.auto.slots ∙ c.deref-mut.ensures.len in
+    let long = c.assign.auto.slots ∙ c.deref_mut.ensures.len in
     ap (λ s. named ns s ws) (with_items_is old new long)
-    ∙ named_more ns (vec_items old) new w ws _ (c.in-Some-assign.ensures ∙ ap (λ s. assigned ns s (assignment w)) c.deref-mut.ensures.value) (ap (named ns (vec_items old)) (sym c.in-Some.ensures.words) ∙ c.loop-word.invariant)
+    ∙ named_more ns (vec_items old) new w ws _ (c.in-Some-assign.ensures ∙ ap (λ s. assigned ns s (assignment w)) c.deref_mut.ensures.value) (ap (named ns (vec_items old)) (sym c.in-Some.ensures.words) ∙ c.loop-word.invariant)

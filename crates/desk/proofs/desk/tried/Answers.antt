@@ -13,13 +13,13 @@ pub returns-in-Ok : goal.returns-in-Ok
 returns-in-Ok c =
     let k = c.args.lattice.now in
     let b = c.in-Ok.holds in
-    let t = c.try-in.new.slots in
-    ap (tried b) (with_items_is c.args.slots t (c.try-in.auto.slots ∙ c.deref-mut.ensures.len))
-    ∙ ap (granted (λ p. tried p.0 p.1)) (tried_answers (meaning k) (ground k).admits (decides k) (nodes_of c.args.sheet.now) c.deref-mut.result.now c.args.u c.args.v t (Ok b) c.in-Ok.ensures.tried)
-    ∙ ap (λ s. tried_on (nodes_of c.args.sheet.now) c.args.u c.args.v s (ground k)) c.deref-mut.ensures.value
+    let t = c.try_in.new.slots in
+    ap (tried b) (with_items_is c.args.slots t (c.try_in.auto.slots ∙ c.deref_mut.ensures.len))
+    ∙ ap (granted (λ p. tried p.0 p.1)) (tried_answers (meaning k) (ground k).admits (decides k) (nodes_of c.args.sheet.now) c.deref_mut.result.now c.args.u c.args.v t (Ok b) c.in-Ok.ensures.tried)
+    ∙ ap (λ s. tried_on (nodes_of c.args.sheet.now) c.args.u c.args.v s (ground k)) c.deref_mut.ensures.value
 
 pub returns-in-Err : goal.returns-in-Err
 returns-in-Err c =
     let k = c.args.lattice.now in
-    ap (granted (λ p. tried p.0 p.1)) (tried_answers (meaning k) (ground k).admits (decides k) (nodes_of c.args.sheet.now) c.deref-mut.result.now c.args.u c.args.v c.try-in.new.slots (Err (row c.in-Err.refusal)) c.in-Err.ensures.tried)
-    ∙ ap (λ s. tried_on (nodes_of c.args.sheet.now) c.args.u c.args.v s (ground k)) c.deref-mut.ensures.value
+    ap (granted (λ p. tried p.0 p.1)) (tried_answers (meaning k) (ground k).admits (decides k) (nodes_of c.args.sheet.now) c.deref_mut.result.now c.args.u c.args.v c.try_in.new.slots (Err (row c.in-Err.refusal)) c.in-Err.ensures.tried)
+    ∙ ap (λ s. tried_on (nodes_of c.args.sheet.now) c.args.u c.args.v s (ground k)) c.deref_mut.ensures.value

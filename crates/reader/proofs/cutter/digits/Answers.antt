@@ -3,8 +3,8 @@ use Rattle.std.specs.Char.{is_ascii_digit}
 use Rattle.std.proofs.lemmas.List.Sums.{prefix_len-drop_yes, prefix_len-drop_no, prefix_len-drop_all}
 use Rattle.reader.proofs.cutter.digits.Goals as goal
 
-pub returns-then-not-is-ascii-digit : goal.returns-then-not-is-ascii-digit
-returns-then-not-is-ascii-digit c =
+pub returns-then-not-is_ascii_digit : goal.returns-then-not-is_ascii_digit
+returns-then-not-is_ascii_digit c =
     let off : is_ascii_digit (get_or c.args.bytes.now c.loop-n.n 0) ≡ false = cc in
     let none = prefix_len-drop_no is_ascii_digit c.args.bytes.now c.loop-n.n 0 c.loop-n-test.true off in
     record { value = omega (arith, c.loop-n.invariant); bound = omega arith }

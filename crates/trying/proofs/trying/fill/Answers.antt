@@ -13,7 +13,7 @@ loop-k-preserved g c =
     let k = c.loop-k.k in
     let s = c.args.slots.now in
     let t = c.loop-k.slots in
-    elim c.match-node-at.branch [
+    elim c.match-node_at.branch [
       | in-Variable w ↦ turn_variable m ns k c.args.end _ s t _ w.in-Variable.ensures.is c.loop-k-test.true c.requires.ready c.loop-k.invariant w.slots-is
       | in-Meet w ↦
           turn_made m ns m.meet laws.meet_admitted (Meet _ _) k _ _ (λ d l. refl) w.in-Meet.ensures.is w.in-Meet.ensures.parts s t _ _ _ _

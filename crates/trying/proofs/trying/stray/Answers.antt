@@ -11,9 +11,9 @@ loop-k-preserved g c =
     let ns = nodes_of c.args.sheet.now in
     let k = c.loop-k.k in
     let s = c.args.slots.now in
-    elim c.match-node-at.branch [
+    elim c.match-node_at.branch [
       | in-Variable+else-not-admits w ↦ ready_variable m ns k s _ (omega arith) w.index-slots-k.is (w.admits.ensures.0 w.if-not-admits.false) c.loop-k.invariant
-      | in-default w ↦ ready_other m ns k s _ c.node-at.ensures.is w.in-default.not-Variable c.loop-k.invariant
+      | in-default w ↦ ready_other m ns k s _ c.node_at.ensures.is w.in_default.not-Variable c.loop-k.invariant
     ]
 
 pub returns : goal.returns

@@ -14,6 +14,6 @@ returns g c =
     let s = c.args.slots.now in
     let t = c.fill.new.slots in
     let grant : Granted m ns u v s t c.below.result =
-    granted m ns u v _ s t _ _ _ c.max-end.ensures c.in-ok-check.ensures c.in-default.ensures c.fill.ensures.filled c.fill.ensures.admitted
+    granted m ns u v _ s t _ _ _ c.max-end.ensures c.in_ok-check.ensures c.in_default.ensures c.fill.ensures.filled c.fill.ensures.admitted
     c.index-slots-u.is c.index-slots-v.is c.below.ensures in
     record { tried = grant; law = verdict m laws ns sheet.grounded sheet.distinct u v s t _ grant }

@@ -19,30 +19,25 @@ returns-in-Some c =
       law = entered_old S.nodes c.args.node c.in-Some.k c.args.self.now.grounded there;
     }
 
-pub push-reserved-requires : goal.push-reserved-requires
-push-reserved-requires c =
+pub push_reserved-requires : goal.push_reserved-requires
+push_reserved-requires c =
     let sheet = c.args.self.now in omega (arith, sheet.few, sheet.room, count_is sheet)
 
-pub invariant-of-self : goal.invariant-of-self
-invariant-of-self c =
+pub invariant_of-self : goal.invariant_of-self
+invariant_of-self c =
     let sheet = c.args.self.now in
     let rs = vec_items sheet.records in
     let n = c.args.node in
-    let p = c.push-reserved.ensures in
-    let items : vec_items c.push-reserved.new.self ≡ rs ++ fresh n ∷ [] = p.items ∙ ap (λ r. rs ++ r ∷ []) c.new.ensures in
-    let all = ap nodes items ∙ nodes_push rs n in (
-      omega (arith, sheet.few, count_is sheet),
-      (
-        omega arith,
-        (
-          subst Grounded (sym all) (grounded_more (nodes rs) n sheet.grounded (judged_fits _ n (sym c.in-ok-judge.ensures))),
-          (
-            subst Distinct (sym all) (distinct_more (nodes rs) n sheet.distinct (sym c.in-default.ensures)),
-            (subst (Inside (vec_len c.push-reserved.new.self)) (sym (ap memo items ∙ memo_push rs n)) (inside_more (vec_len sheet.records) _ (memo rs) sheet.inside (omega arith)), tt),
-          ),
-        ),
-      ),
-    )
+    let p = c.push_reserved.ensures in
+    let items : vec_items c.push_reserved.new.self ≡ rs ++ fresh n ∷ [] = p.items ∙ ap (λ r. rs ++ r ∷ []) c.new.ensures in
+    let all = ap nodes items ∙ nodes_push rs n in
+    record {
+      few = omega (arith, sheet.few, count_is sheet);
+      room = omega arith;
+      grounded = subst Grounded (sym all) (grounded_more (nodes rs) n sheet.grounded (judged_fits _ n (sym c.in_ok-judge.ensures)));
+      distinct = subst Distinct (sym all) (distinct_more (nodes rs) n sheet.distinct (sym c.in_default.ensures));
+      inside = subst (Inside (vec_len c.push_reserved.new.self)) (sym (ap memo items ∙ memo_push rs n)) (inside_more (vec_len sheet.records) _ (memo rs) sheet.inside (omega arith));
+    }
 
 pub returns : goal.returns
 returns c =

@@ -10,27 +10,22 @@ use Rattle.sheet.proofs.Keep.{kept_all}
 use Rattle.sheet.proofs.View.{count_is, settled_inside}
 use Rattle.sheet.proofs.sheet.Sheet.keep.Goals as goal
 
-pub invariant-of-self : goal.invariant-of-self
-invariant-of-self c =
+pub invariant_of-self : goal.invariant_of-self
+invariant_of-self c =
     let sheet = c.args.self.now in
     let n = c.args.n in
     let rs = vec_items sheet.records in
     let items = c.shorten.ensures.items in
     let fit : n ≤ length rs = omega (arith, sheet.records.ok.0) in
     let long : vec_len c.shorten.new.records ≡ n = omega (arith, c.shorten.new.records.ok.0, ap length items, length-map (take n rs) (within n), length-take n rs) in
-    let all = ap nodes items ∙ nodes_shorter n rs in (
-      omega (arith, sheet.few),
-      (
-        omega (arith, sheet.room, c.shorten.ensures.capacity),
-        (
-          subst Grounded (sym all) (grounded_less (nodes rs) n sheet.grounded),
-          (
-            subst Distinct (sym all) (distinct_less (nodes rs) n sheet.distinct),
-            (subst₂ (λ k l. Inside k (memo l)) (sym long) (sym items) (inside_shorter n rs fit), tt),
-          ),
-        ),
-      ),
-    )
+    let all = ap nodes items ∙ nodes_shorter n rs in
+    record {
+      few = omega (arith, sheet.few);
+      room = omega (arith, sheet.room, c.shorten.ensures.capacity);
+      grounded = subst Grounded (sym all) (grounded_less (nodes rs) n sheet.grounded);
+      distinct = subst Distinct (sym all) (distinct_less (nodes rs) n sheet.distinct);
+      inside = subst₂ (λ k l. Inside k (memo l)) (sym long) (sym items) (inside_shorter n rs fit);
+    }
 
 pub returns-then-n-len : goal.returns-then-n-len
 returns-then-n-len c =
