@@ -36,13 +36,13 @@ list-add-requires t c =
 -- the ends of a list
 pub list-returns-in_err-token : goal.list-returns-in_err-token
 list-returns-in_err-token t c =
-    let p = err_from_is_err_and c.from-residual-in_err-token.result c.from-residual-in_err-token.ensures.1 in
+    let p = err_from_is_err_and c.from_residual-in_err-token.result c.from_residual-in_err-token.ensures.1 in
     record {
-      text = c.next.ensures.text ∙ c.loop-token.invariant.0 ∙ c.sign-due.ensures.text;
-      onward = omega (arith, c.next.ensures.onward, c.loop-token.invariant.1, c.sign-due.ensures.onward);
+      text = c.next.ensures.text ∙ c.loop-token.invariant.0 ∙ c.sign_due.ensures.text;
+      onward = omega (arith, c.next.ensures.onward, c.loop-token.invariant.1, c.sign_due.ensures.onward);
       outcome = ended_eq (ap told (p.1 ∙ ap Err p.2)) refl c.next.ensures.after
           ∙ turn_err c.loop-token.invariant.2 (row c.in_err-token.field-0.0) c.in_err-token.ensures.answer
-          ∙ started _ _ _ _ _ _ _ c.sign-due.ensures.text (c.in_ok-sign.ensures.outcome _);
+          ∙ started _ _ _ _ _ _ _ c.sign_due.ensures.text (c.in_ok-sign.ensures.outcome _);
       memo = c.loop-token.invariant.4;
     }
 
@@ -50,45 +50,45 @@ pub list-returns-in_default : goal.list-returns-in_default
 list-returns-in_default t c =
     let long = c.len.ensures ∙ ap length c.next.ensures.text in
     record {
-      text = c.next.ensures.text ∙ c.loop-token.invariant.0 ∙ c.sign-due.ensures.text;
-      onward = omega (arith, c.next.ensures.onward, c.loop-token.invariant.1, c.sign-due.ensures.onward);
+      text = c.next.ensures.text ∙ c.loop-token.invariant.0 ∙ c.sign_due.ensures.text;
+      onward = omega (arith, c.next.ensures.onward, c.loop-token.invariant.1, c.sign_due.ensures.onward);
       outcome = ended_eq (ap Err (c.fault.ensures ∙ ap (by_reader 3) long)) refl c.next.ensures.after
           ∙ turn_none c.loop-token.invariant.2 (ap Ok (sym c.in_default.is) ∙ c.in_ok-token.ensures.answer)
-          ∙ started _ _ _ _ _ _ _ c.sign-due.ensures.text (c.in_ok-sign.ensures.outcome _);
+          ∙ started _ _ _ _ _ _ _ c.sign_due.ensures.text (c.in_ok-sign.ensures.outcome _);
       memo = c.loop-token.invariant.4;
     }
 
 pub list-returns-in-Close : goal.list-returns-in-Close
 list-returns-in-Close t c =
     record {
-      text = c.next.ensures.text ∙ c.loop-token.invariant.0 ∙ c.sign-due.ensures.text;
-      onward = omega (arith, c.next.ensures.onward, c.loop-token.invariant.1, c.sign-due.ensures.onward);
+      text = c.next.ensures.text ∙ c.loop-token.invariant.0 ∙ c.sign_due.ensures.text;
+      onward = omega (arith, c.next.ensures.onward, c.loop-token.invariant.1, c.sign_due.ensures.onward);
       outcome = ended_eq c.close.ensures refl refl ∙ turn_close c.loop-token.invariant.2 (took c.in-Some.is c.in_ok-token.ensures.answer c.next.ensures.text c.next.ensures.after) c.in-Close.is
-          ∙ started _ _ _ _ _ _ _ c.sign-due.ensures.text (c.in_ok-sign.ensures.outcome _);
+          ∙ started _ _ _ _ _ _ _ c.sign_due.ensures.text (c.in_ok-sign.ensures.outcome _);
       memo = c.loop-token.invariant.4;
     }
 
 pub list-returns-in_err-part : goal.list-returns-in_err-part
 list-returns-in_err-part t c =
-    let p = err_from_is_err_and c.from-residual-in_err-part.result c.from-residual-in_err-part.ensures.1 in
+    let p = err_from_is_err_and c.from_residual-in_err-part.result c.from_residual-in_err-part.ensures.1 in
     record {
-      text = c.term.ensures.text ∙ c.next.ensures.text ∙ c.loop-token.invariant.0 ∙ c.sign-due.ensures.text;
-      onward = omega (arith, c.term.ensures.onward, c.next.ensures.onward, c.loop-token.invariant.1, c.sign-due.ensures.onward);
+      text = c.term.ensures.text ∙ c.next.ensures.text ∙ c.loop-token.invariant.0 ∙ c.sign_due.ensures.text;
+      onward = omega (arith, c.term.ensures.onward, c.next.ensures.onward, c.loop-token.invariant.1, c.sign_due.ensures.onward);
       outcome = ended_eq (ap told (p.1 ∙ ap Err p.2)) refl refl
           ∙ turn_term c.loop-token.invariant.2 (took c.in-Some.is c.in_ok-token.ensures.answer c.next.ensures.text c.next.ensures.after) c.in_default-kind.not-Close (row c.in_err-part.field-0.0) _ _ c.in_err-part.ensures.outcome
-          ∙ started _ _ _ _ _ _ _ c.sign-due.ensures.text (c.in_ok-sign.ensures.outcome _);
+          ∙ started _ _ _ _ _ _ _ c.sign_due.ensures.text (c.in_ok-sign.ensures.outcome _);
       memo = c.term.ensures.memo ∙ c.loop-token.invariant.4;
     }
 
 pub list-returns-in_err-held : goal.list-returns-in_err-held
 list-returns-in_err-held t c =
-    let p = err_from_is_err_and c.from-residual-in_err-held.result c.from-residual-in_err-held.ensures.1 in
+    let p = err_from_is_err_and c.from_residual-in_err-held.result c.from_residual-in_err-held.ensures.1 in
     record {
-      text = c.term.ensures.text ∙ c.next.ensures.text ∙ c.loop-token.invariant.0 ∙ c.sign-due.ensures.text;
-      onward = omega (arith, c.term.ensures.onward, c.next.ensures.onward, c.loop-token.invariant.1, c.sign-due.ensures.onward);
+      text = c.term.ensures.text ∙ c.next.ensures.text ∙ c.loop-token.invariant.0 ∙ c.sign_due.ensures.text;
+      onward = omega (arith, c.term.ensures.onward, c.next.ensures.onward, c.loop-token.invariant.1, c.sign_due.ensures.onward);
       outcome = ended_eq (ap told (p.1 ∙ ap Err p.2)) refl refl
           ∙ turn_add c.loop-token.invariant.2 (took c.in-Some.is c.in_ok-token.ensures.answer c.next.ensures.text c.next.ensures.after) c.in_default-kind.not-Close _ _ _ c.in_ok-part.ensures.outcome (row c.in_err-held.field-0.0) _ (c.in_err-held.ensures.outcome _)
-          ∙ started _ _ _ _ _ _ _ c.sign-due.ensures.text (c.in_ok-sign.ensures.outcome _);
+          ∙ started _ _ _ _ _ _ _ c.sign_due.ensures.text (c.in_ok-sign.ensures.outcome _);
       memo = c.add.ensures.memo ∙ c.term.ensures.memo ∙ c.loop-token.invariant.4;
     }
 
@@ -113,6 +113,6 @@ term-returns-in_default t c =
     record {
       text = refl;
       onward = omega arith;
-      outcome = ended_eq (ap Err c.fault-in-default.ensures) refl refl ∙ term_misplaced _ c.args.token _ _ c.args.left c.in_default.not-Variable c.in_default.not-Open;
+      outcome = ended_eq (ap Err c.fault-in_default.ensures) refl refl ∙ term_misplaced _ c.args.token _ _ c.args.left c.in_default.not-Variable c.in_default.not-Open;
       memo = refl;
     }

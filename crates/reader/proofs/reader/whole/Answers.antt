@@ -12,7 +12,7 @@ term-requires c =
 
 pub returns-in_err-node : goal.returns-in_err-node
 returns-in_err-node c =
-    let p = err_from_is_err_and c.from-residual-in_err-node.result c.from-residual-in_err-node.ensures.1 in
+    let p = err_from_is_err_and c.from_residual-in_err-node.result c.from_residual-in_err-node.ensures.1 in
     let first : Took c.args.cutter.now.text.now c.args.cutter.now.at c.in-Some.token c.next.new.self.text.now c.next.new.self.at = took c.in-Some.is c.in_ok-token.ensures.answer c.next.ensures.text c.next.ensures.after in
     let ns = nodes_of c.args.sheet.now in
     record {

@@ -5,7 +5,7 @@ use Rattle.worksheet.proofs.words.number.Goals as goal
 
 pub returns-in_err-n : goal.returns-in_err-n
 returns-in_err-n c =
-    c.from-residual.ensures
+    c.from_residual.ensures
     ∙ figures_more c.loop-b.n c.args.word.now c.loop-b.b-index None (omega arith) c.in_err-n.ensures c.loop-b.invariant
     ∙ numeral_figures c.args.word.now (search rules)
 
