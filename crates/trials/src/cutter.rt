@@ -1,7 +1,6 @@
 // Trials of the cutter alone: the tokens of a text with their places, also those behind a token that it refuses.
 use reader::{Cause, Cutter, Fault, Kind, Layer, Token};
 use std::process::Abort;
-use std::test::Fail;
 
 // What the cutter answers, with the place.
 #[derive(Clone, Copy)]
@@ -24,15 +23,14 @@ fn answer(piece: Piece) -> Result<Option<Token>, Fault> {
 }
 
 // The text has these pieces and no more, however often it is asked.
-fn cuts(rt: &impl Abort, text: &[u8], pieces: &[Piece]) -> Result<(), Fail> {
+fn cuts(rt: &impl Abort, text: &[u8], pieces: &[Piece]) {
     let mut cutter = Cutter::new(text);
     for piece in pieces {
-        assert_eq!(rt; cutter.next(), answer(*piece));
+        assert_eq!(rt; cutter.next(), answer(*piece), "text {text:?}");
     }
-    assert_eq!(rt; cutter.next(), Ok(None));
-    assert_eq!(rt; cutter.next(), Ok(None));
-    assert_eq!(rt; cutter.len(), text.len());
-    Ok(())
+    assert_eq!(rt; cutter.next(), Ok(None), "text {text:?}");
+    assert_eq!(rt; cutter.next(), Ok(None), "text {text:?}");
+    assert_eq!(rt; cutter.len(), text.len(), "text {text:?}");
 }
 
 static TEXTS: &[(&[u8], &[Piece])] = &[
@@ -92,11 +90,10 @@ static TEXTS: &[(&[u8], &[Piece])] = &[
 ];
 
 #[test]
-fn texts(rt: HostRuntime) -> Result<(), Fail> {
+fn texts(rt: HostRuntime) {
     for (text, pieces) in TEXTS {
-        cuts(&rt, text, pieces).note(format_args!("text {text:?}"))?;
+        cuts(&rt, text, pieces);
     }
     assert_eq!(rt; Cutter::new(b"").len(), 0);
     assert_eq!(rt; Cutter::new(b" (x10 +x01*?)").len(), 13);
-    Ok(())
 }

@@ -78,20 +78,20 @@ static REFUSED: &[Refused] = &[
 
 fn all_granted(rt: &impl Abort, heap: Global, rows: &[Granted]) -> Result<(), Fail> {
     let mut sheet = Sheet::blank(heap)?;
-    for (row, (parts, node)) in rows.iter().enumerate() {
+    for (parts, node) in rows {
         let text = woven(heap, parts)?;
         let count = node.saturating_add(1);
         sheet.keep(0);
-        granted(rt, &mut sheet, &text, *node, count).note(format_args!("row {row}"))?;
+        granted(rt, &mut sheet, &text, *node, count)?;
     }
     Ok(())
 }
 
 fn all_refused(rt: &impl Abort, heap: Global, rows: &[Refused]) -> Result<(), Fail> {
     let mut sheet = Sheet::blank(heap)?;
-    for (row, (parts, number, place)) in rows.iter().enumerate() {
+    for (parts, number, place) in rows {
         let text = woven(heap, parts)?;
-        refused(rt, &mut sheet, &text, *number, *place).note(format_args!("row {row}"))?;
+        refused(rt, &mut sheet, &text, *number, *place)?;
     }
     Ok(())
 }

@@ -13,11 +13,11 @@ const Z: Node = Node::Variable(2525);
 
 // The sheet has these nodes and no others.
 fn holds(rt: &impl Abort, sheet: &mut Sheet, nodes: &[Node]) -> Result<(), Fail> {
-    assert_eq!(rt; sheet.count(), nodes.len());
+    assert_eq!(rt; sheet.count(), nodes.len(), "nodes {nodes:?}");
     for (k, node) in nodes.iter().enumerate() {
-        assert_eq!(rt; sheet.enter(*node)?, k);
+        assert_eq!(rt; sheet.enter(*node)?, k, "nodes {nodes:?}");
     }
-    assert_eq!(rt; sheet.count(), nodes.len());
+    assert_eq!(rt; sheet.count(), nodes.len(), "nodes {nodes:?}");
     Ok(())
 }
 
@@ -376,9 +376,9 @@ fn all_built(rt: &impl Abort, heap: Global, rows: &[Built]) -> Result<(), Fail> 
     for (text, nodes) in rows {
         sheet.keep(0);
         let last = nodes.len().saturating_sub(1);
-        granted(rt, &mut sheet, text, last, nodes.len()).note(format_args!("text {text:?}"))?;
-        holds(rt, &mut sheet, nodes).note(format_args!("text {text:?}"))?;
-        granted(rt, &mut sheet, text, last, nodes.len()).note(format_args!("again {text:?}"))?;
+        granted(rt, &mut sheet, text, last, nodes.len())?;
+        holds(rt, &mut sheet, nodes)?;
+        granted(rt, &mut sheet, text, last, nodes.len())?;
     }
     Ok(())
 }

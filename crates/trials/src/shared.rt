@@ -21,6 +21,11 @@ pub(crate) fn fill(rt: &impl Abort, sheet: &mut Sheet, n: u8) -> Result<(), Fail
     Ok(())
 }
 
+// As much of a text as a failed trial shows.
+pub(crate) fn shown(text: &[u8]) -> &[u8] {
+    &text[..text.len().min(80)]
+}
+
 // The text is read as the node, and then there are `count` nodes.
 pub(crate) fn granted(
     rt: &impl Abort,
@@ -29,8 +34,9 @@ pub(crate) fn granted(
     node: usize,
     count: usize,
 ) -> Result<(), Fail> {
-    assert_eq!(rt; read(sheet, text)?, node);
-    assert_eq!(rt; sheet.count(), count);
+    let shown = shown(text);
+    assert_eq!(rt; read(sheet, text)?, node, "text {shown:?}");
+    assert_eq!(rt; sheet.count(), count, "text {shown:?}");
     Ok(())
 }
 
@@ -51,15 +57,20 @@ pub(crate) fn refused(
     number: u8,
     place: usize,
 ) -> Result<(), Fail> {
+    let shown = shown(text);
     let count = sheet.count();
     match read(sheet, text) {
-        Ok(node) => return Err(Fail::new(format_args!("it is granted as node {node}"))),
+        Ok(node) => return Err(Fail::new(format_args!("text {shown:?} is granted as node {node}"))),
         Err(fault) => {
-            assert_eq!(rt; (fault.number(), fault.place), (number, place));
-            assert_eq!(rt; fault.layer, layer(number));
+            assert_eq!(rt;
+                (fault.number(), fault.place),
+                (number, place),
+                "text {shown:?}"
+            );
+            assert_eq!(rt; fault.layer, layer(number), "text {shown:?}");
         }
     }
-    assert_eq!(rt; sheet.count(), count);
+    assert_eq!(rt; sheet.count(), count, "text {shown:?}");
     Ok(())
 }
 
@@ -69,7 +80,7 @@ pub(crate) fn all_granted(
     rows: &[Granted],
 ) -> Result<(), Fail> {
     for (text, node, count) in rows {
-        granted(rt, sheet, text, *node, *count).note(format_args!("text {text:?}"))?;
+        granted(rt, sheet, text, *node, *count)?;
     }
     Ok(())
 }
@@ -80,7 +91,7 @@ pub(crate) fn all_refused(
     rows: &[Refused],
 ) -> Result<(), Fail> {
     for (text, number, place) in rows {
-        refused(rt, sheet, text, *number, *place).note(format_args!("text {text:?}"))?;
+        refused(rt, sheet, text, *number, *place)?;
     }
     Ok(())
 }

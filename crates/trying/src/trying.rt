@@ -47,7 +47,7 @@ fn node_at(sheet: &Sheet, k: usize) -> Node
 fn stray<L: Lattice>(lattice: &L, sheet: &Sheet, end: usize, slots: &[L::Element]) -> Option<usize>
     requires nodes { end ≤ length (nodes_of sheet.now) }
     requires room { end ≤ length slots.now }
-    ensures { MatchOption result (Ready (means lattice.now) (nodes_of sheet.now) end slots.now) (Stray (means lattice.now) (nodes_of sheet.now) end slots.now) }
+    ensures { MatchOption result (Ready (L.means lattice.now) (nodes_of sheet.now) end slots.now) (Stray (L.means lattice.now) (nodes_of sheet.now) end slots.now) }
 {
     for k in 0..end {
         if let Node::Variable(_) = node_at(sheet, k) {
@@ -63,9 +63,9 @@ fn stray<L: Lattice>(lattice: &L, sheet: &Sheet, end: usize, slots: &[L::Element
 fn fill<L: Lattice>(lattice: &L, sheet: &Sheet, end: usize, slots: &mut [L::Element])
     requires nodes { end ≤ length (nodes_of sheet.now) }
     requires room { end ≤ length slots.old }
-    requires ready { Ready (means lattice.now) (nodes_of sheet.now) end slots.old }
-    ensures filled { Filled (means lattice.now) (nodes_of sheet.now) end slots.old slots.new }
-    ensures admitted { Admitted (means lattice.now) end slots.new }
+    requires ready { Ready (L.means lattice.now) (nodes_of sheet.now) end slots.old }
+    ensures filled { Filled (L.means lattice.now) (nodes_of sheet.now) end slots.old slots.new }
+    ensures admitted { Admitted (L.means lattice.now) end slots.new }
 {
     for k in 0..end {
         match node_at(sheet, k) {
@@ -85,8 +85,8 @@ pub fn try_in<L: Lattice>(
     v: usize,
     slots: &mut [L::Element],
 ) -> Result<bool, Refusal>
-    ensures tried { Tried (means lattice.now) (nodes_of sheet.now) u v slots.old slots.new (told result) }
-    ensures law { Judged (means lattice.now) (nodes_of sheet.now) u v slots.old slots.new (told result) }
+    ensures tried { Tried (L.means lattice.now) (nodes_of sheet.now) u v slots.old slots.new (told result) }
+    ensures law { Judged (L.means lattice.now) (nodes_of sheet.now) u v slots.old slots.new (told result) }
 {
     check(sheet, u, v, slots.len())?;
     let end = u.max(v) + 1;
