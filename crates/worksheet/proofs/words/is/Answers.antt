@@ -6,5 +6,5 @@ use Rattle.worksheet.proofs.words.is.Goals as goal
 
 pub returns : goal.returns
 returns c =
-    let told = slice_eq-Decides Decides-eqb c.args.word.now c.as-bytes.result.now c.eq.result c.eq.ensures in
-    same_from_decides _ _ told (bytes_eq-Decides c.args.word.now c.as-bytes.result.now) ∙ ap (bytes_eq c.args.word.now) c.as-bytes.ensures.value
+    let told = slice_eq-Decides Decides-eqb c.args.word.now c.as_bytes.result.now c.eq.result c.eq.ensures in
+    same_from_decides _ _ told (bytes_eq-Decides c.args.word.now c.as_bytes.result.now) ∙ ap (bytes_eq c.args.word.now) c.as_bytes.ensures.value

@@ -3,14 +3,14 @@ use Rattle.std.proofs.lemmas.List.{drop_all}
 use Rattle.worksheet.proofs.Numerals.{figures, figures_more, numeral_figures}
 use Rattle.worksheet.proofs.words.number.Goals as goal
 
-pub returns-in-err-n : goal.returns-in-err-n
-returns-in-err-n c =
-    c.from-residual.ensures
-    ∙ figures_more c.loop-b.n c.args.word.now c.loop-b.b-index None (omega arith) c.in-err-n.ensures c.loop-b.invariant
+pub returns-in_err-n : goal.returns-in_err-n
+returns-in_err-n c =
+    c.from_residual.ensures
+    ∙ figures_more c.loop-b.n c.args.word.now c.loop-b.b-index None (omega arith) c.in_err-n.ensures c.loop-b.invariant
     ∙ numeral_figures c.args.word.now (search rules)
 
 pub loop-b-preserved : goal.loop-b-preserved
-loop-b-preserved c = figures_more c.loop-b.n c.args.word.now c.loop-b.b-index (Some c.in-ok-n.n) (omega arith) c.in-ok-n.ensures c.loop-b.invariant
+loop-b-preserved c = figures_more c.loop-b.n c.args.word.now c.loop-b.b-index (Some c.in_ok-n.n) (omega arith) c.in_ok-n.ensures c.loop-b.invariant
 
 pub returns : goal.returns
 returns c =
