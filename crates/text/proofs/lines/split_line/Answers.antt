@@ -4,8 +4,8 @@ use Rattle.text.specs.Lines.{lines_of}
 use Rattle.text.proofs.SplitLines.{lines_first, none_first, last_first, fed_first}
 use Rattle.text.proofs.lines.split_line.Goals as goal
 
-pub returns-then-is-empty : goal.returns-then-is-empty
-returns-then-is-empty c =
+pub returns-then-is_empty : goal.returns-then-is_empty
+returns-then-is_empty c =
     let value = sym (none_first c.args.script.now (search rules)) in
     record { value = value; lines = lines_first c.args.script.now ∙ ap (spread lines_of) (sym value); shorter = tt }
 

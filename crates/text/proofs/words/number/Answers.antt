@@ -3,10 +3,10 @@ use Rattle.std.proofs.lemmas.List.{drop_all}
 use Rattle.text.proofs.Numerals.{figures, figures_more, numeral_figures}
 use Rattle.text.proofs.words.number.Goals as goal
 
-pub returns-in-err-n : goal.returns-in-err-n
-returns-in-err-n c =
-    c.from-residual.ensures
-    ∙ figures_more c.loop-b.n c.args.word.now c.loop-b.b-index None (omega arith) c.in-err-n.ensures c.loop-b.invariant
+pub returns-in_err-n : goal.returns-in_err-n
+returns-in_err-n c =
+    c.from_residual.ensures
+    ∙ figures_more c.loop-b.n c.args.word.now c.loop-b.b-index None (omega arith) c.in_err-n.ensures c.loop-b.invariant
     ∙ numeral_figures c.args.word.now (search rules)
 
 pub loop-b-preserved : goal.loop-b-preserved
