@@ -2,7 +2,7 @@
 ghost use Rattle.std.specs.Prelude.{◌<◌, ◌≤◌};
 ghost use Rattle.frames.specs.Order.{Reflexive, Transitive, Antisymmetric, Complete};
 
-mod lattice;
+mod bounds;
 
 // The elements are the numbers below `size`, and the bit of `order` worth 2^(8a + b) says that a is below b.
 #[derive(Clone, Copy)]

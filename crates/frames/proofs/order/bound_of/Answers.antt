@@ -7,11 +7,11 @@ use Rattle.frames.proofs.order.bound_of.Goals as goal
 pub loop-c-init : goal.loop-c-init
 loop-c-init c = first_start (best c.args.n c.args.order c.args.up c.args.a c.args.b)
 
-pub returns-then-is-best : goal.returns-then-is-best
+pub returns-then-is_best : goal.returns-then-is_best
 unfolding bound
-returns-then-is-best c =
+returns-then-is_best c =
     sym (first_hit c.args.n c.loop-c.c (best c.args.n c.args.order c.args.up c.args.a c.args.b)
-    (omega arith) c.loop-c.invariant (sym c.is-best.ensures ∙ c.if-is-best.true))
+    (omega arith) c.loop-c.invariant (sym c.is_best.ensures ∙ c.if-is_best.true))
 
 pub loop-c-preserved : goal.loop-c-preserved
 loop-c-preserved c =

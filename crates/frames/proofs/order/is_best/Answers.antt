@@ -10,11 +10,11 @@ loop-d-preserved c =
     every_more c.loop-d.d (follows c.args.order c.args.up c.args.a c.args.b c.args.c) c.loop-d.invariant
     (sym c.stays_below.ensures ∙ c.if-not-stays_below.false)
 
-pub returns-then-not-stays-below : goal.returns-then-not-stays-below
-returns-then-not-stays-below c =
+pub returns-then-not-stays_below : goal.returns-then-not-stays_below
+returns-then-not-stays_below c =
     let w = c.args.order in
     let up = c.args.up in
     let p = follows w up c.args.a c.args.b c.args.c in
-    let fails : every c.args.n p ≡ false = every_fails c.args.n c.loop-d.d p (omega arith) (sym c.stays-below.ensures ∙ c.if-not-stays-below.true) in
+    let fails : every c.args.n p ≡ false = every_fails c.args.n c.loop-d.d p (omega arith) (sym c.stays_below.ensures ∙ c.if-not-stays_below.true) in
     sym (and_right (le w up c.args.c c.args.a) (le w up c.args.c c.args.b && every c.args.n p)
     (and_right (le w up c.args.c c.args.b) (every c.args.n p) fails))

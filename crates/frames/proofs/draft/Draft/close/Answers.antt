@@ -15,25 +15,21 @@ found D w o e f = f ∙ ap (amiss D.size) e
 granted : (D : Drafted) (w : ℕ) → w ≡ closure D.size D.lines → None ≡ amiss D.size w → Ok (record { size = D.size; order = w }) ≡ closing D
 granted D w e f = ap (λ (x : ℕ). Ok (record { size = D.size; order = x })) e ∙ ap (closing_by D (closure D.size D.lines)) (found D w None e f)
 
-pub invariant-of-result : goal.invariant-of-result
-invariant-of-result c =
+pub invariant_of-result : goal.invariant_of-result
+invariant_of-result c =
     let D = draft_of c.args.self in
     let few = c.args.self.few in
-    let w = c.closure-of-order.result in
-    let d = drawn_of D few (record { size = D.size; order = w }) (granted D w c.closure-of-order.ensures c.in-None.ensures) in
-    let o = d.lattice.order in (
-      c.args.self.some,
-      (
-        few,
-        (
-          reflexive_by D.size w (Chain D) d.decides o,
-          (
-            transitive_by D.size w (Chain D) d.decides o,
-            (antisymmetric_by D.size w (Chain D) d.decides o, (complete_by D.size w (Chain D) d.decides d.lattice, tt)),
-          ),
-        ),
-      ),
-    )
+    let w = c.closure_of-order.result in
+    let d = drawn_of D few (record { size = D.size; order = w }) (granted D w c.closure_of-order.ensures c.in-None.ensures) in
+    let o = d.lattice.order in
+    record {
+      some = c.args.self.some;
+      few = few;
+      reflexive = reflexive_by D.size w (Chain D) d.decides o;
+      transitive = transitive_by D.size w (Chain D) d.decides o;
+      antisymmetric = antisymmetric_by D.size w (Chain D) d.decides o;
+      complete = complete_by D.size w (Chain D) d.decides d.lattice;
+    }
 
 pub returns-in-None : goal.returns-in-None
 returns-in-None c =

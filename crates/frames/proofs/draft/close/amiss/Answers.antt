@@ -11,22 +11,22 @@ returns-in-Some c =
     let w = c.args.order in
     amiss_is n w (Some (c.in-Some.a, c.in-Some.b)) (first_pair (rising n (gap n w))) c.in-Some.ensures refl
 
-pub returns-in-err-a : goal.returns-in-err-a
-returns-in-err-a c =
-    c.from-residual.ensures ∙ amiss_is c.args.n c.args.order None None c.in-default.ensures c.in-err-a.ensures
+pub returns-in_err-a : goal.returns-in_err-a
+returns-in_err-a c =
+    c.from_residual.ensures ∙ amiss_is c.args.n c.args.order None None c.in_default.ensures c.in_err-a.ensures
 
-pub bound-of-requires : goal.bound-of-requires
-bound-of-requires c =
+pub bound_of-requires : goal.bound_of-requires
+bound_of-requires c =
     let n = c.args.n in
-    let small = pair_small (rising n (gap n c.args.order)) (c.in-ok-a.a, c.in-ok-a.b) (sym c.in-ok-a.ensures) in
+    let small = pair_small (rising n (gap n c.args.order)) (c.in_ok-a.a, c.in_ok-a.b) (sym c.in_ok-a.ensures) in
     record { few = c.requires; left = small.0; right = small.1 }
 
-pub returns-then-is-some : goal.returns-then-is-some
-returns-then-is-some c =
-    amiss_lacking c.args.n c.args.order c.in-ok-a.a c.in-ok-a.b true c.in-default.ensures c.in-ok-a.ensures
-    (sym (c.is-some.ensures ∙ ap is_some c.bound-of.ensures) ∙ c.if-is-some.true)
+pub returns-then-is_some : goal.returns-then-is_some
+returns-then-is_some c =
+    amiss_lacking c.args.n c.args.order c.in_ok-a.a c.in_ok-a.b true c.in_default.ensures c.in_ok-a.ensures
+    (sym (c.is_some.ensures ∙ ap is_some c.bound_of.ensures) ∙ c.if-is_some.true)
 
-pub returns-else-is-some : goal.returns-else-is-some
-returns-else-is-some c =
-    amiss_lacking c.args.n c.args.order c.in-ok-a.a c.in-ok-a.b false c.in-default.ensures c.in-ok-a.ensures
-    (sym (c.is-some.ensures ∙ ap is_some c.bound-of.ensures) ∙ c.if-is-some.false)
+pub returns-else-is_some : goal.returns-else-is_some
+returns-else-is_some c =
+    amiss_lacking c.args.n c.args.order c.in_ok-a.a c.in_ok-a.b false c.in_default.ensures c.in_ok-a.ensures
+    (sym (c.is_some.ensures ∙ ap is_some c.bound_of.ensures) ∙ c.if-is_some.false)

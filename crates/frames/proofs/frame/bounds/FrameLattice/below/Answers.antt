@@ -2,7 +2,7 @@ use Rattle.std.proofs.Common.{false}
 use Rattle.std.proofs.lemmas.Bool.Decides.{Decides-at}
 use Rattle.frames.specs.Order.{le}
 use Rattle.frames.specs.Framing.{compares}
-use Rattle.frames.proofs.frame.lattice.FrameLattice.below.Goals as goal
+use Rattle.frames.proofs.frame.bounds.FrameLattice.below.Goals as goal
 
 pub returns-then-b-self : goal.returns-then-b-self
 returns-then-b-self c =

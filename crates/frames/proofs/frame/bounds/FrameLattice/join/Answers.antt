@@ -1,9 +1,9 @@
 use Rattle.std.proofs.Common.{◌<◌, sym, subst}
-use Rattle.free_lattice.specs.Bounds.{Infimum}
+use Rattle.free_lattice.specs.Bounds.{Supremum}
 use Rattle.frames.specs.Order.{Le}
 use Rattle.frames.specs.View.{frame_of}
 use Rattle.frames.specs.Framing.{bounded}
-use Rattle.frames.proofs.frame.lattice.FrameLattice.meet.Goals as goal
+use Rattle.frames.proofs.frame.bounds.FrameLattice.join.Goals as goal
 
 pub returns : goal.returns
 returns c =
@@ -11,6 +11,6 @@ returns c =
     let a = c.args.a in
     let b = c.args.b in
     record {
-      meets = c.bound.ensures;
-      greatest = λ p q. subst (Infimum (λ x. x < f.size) (Le (frame_of f)) a b) (sym (c.bound.ensures p q)) ((bounded f).infima a b p q);
+      joins = c.bound.ensures;
+      least = λ p q. subst (Supremum (λ x. x < f.size) (Le (frame_of f)) a b) (sym (c.bound.ensures p q)) ((bounded f).suprema a b p q);
     }
