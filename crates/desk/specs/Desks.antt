@@ -2,7 +2,7 @@
 --   Desked             a desk to its callers: its sheet, and a draft and a frame if there are any
 --   Outcome            a desk afterwards, with the reply
 --   step D c           the outcome of the call c on the desk D
-use Rattle.std.specs.Prelude.{ℕ, max, Bool, List, Some, None, Ok, Err, Option, Result}
+use Rattle.std.specs.Prelude.{ℕ, max, List, Some, None, Ok, Err, Option, Result}
 use Rattle.refused.specs.Refused.{Refused}
 use Rattle.sheet.specs.declared.node.Node.{Node}
 use Rattle.sheet.specs.State.{State, blank}

@@ -1,5 +1,5 @@
 -- The lattices that a trial can be made in: their laws, what they admit, and how the divisors take numbers of 64 bits.
-use Rattle.std.specs.Prelude.{◌≡◌, ℕ, ◌%◌, ◌^◌, ◌<◌, ◌≤◌, Bool, Decides, ◌==◌, ◌≢◌}
+use Rattle.std.specs.Prelude.{◌≡◌, ℕ, ◌%◌, ◌^◌, ◌≤◌, Bool, Decides, ◌==◌, ◌≢◌}
 use Rattle.std.proofs.Common.{sym, subst, subst₂, ◌∙◌, mod-eq_of_lt, arith}
 use Rattle.std.specs.Int.{◌∣◌}
 use Rattle.std.proofs.Math.Nat.{le_of_dvd}

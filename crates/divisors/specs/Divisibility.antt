@@ -5,7 +5,7 @@ use Rattle.std.proofs.Math.Nat.{dvd_refl, dvd_trans, dvd_antisymm, dvd_of_mod-eq
 use Rattle.std.proofs.Common.{arith}
 use Rattle.std.proofs.lemmas.Bool.Decides.{Decides-like, Decides-and, Decides-not, Decides-eqb}
 use Rattle.free_lattice.specs.Bounds.{Bounded}
-use Rattle.divisors.specs.Divisors.{divides, gcd, lcm, divisors}
+use Rattle.divisors.specs.Divisors.{divides, gcd, divisors}
 use Rattle.divisors.specs.Gcds.{gcd_divides_left, gcd_divides_right, divides_gcd, divides_lcm_left, divides_lcm_right, lcm_divides}
 
 pub decides_divides : (x n : ℕ) → 0 < n → Decides (divides x n) (x ∣ n)

@@ -1,1 +1,3 @@
+#![tactic(auto)]
+
 // The mathematics of the worksheet: the terms of lattice theory, lattices, and the values of terms in them.

@@ -1,6 +1,6 @@
 -- The laws of the bits in both and in either, and with them those of sets.
 -- An operation on words that works bit by bit, by f on each, is told by its halves and its lowest bits.
-use Rattle.std.specs.Prelude.{◌≡◌, ℕ, ◌/◌, ◌%◌, ◌^◌, min, max, bit_and, bit_or, refl}
+use Rattle.std.specs.Prelude.{◌≡◌, ℕ, ◌/◌, ◌%◌, min, max, bit_and, bit_or, refl}
 use Rattle.std.proofs.Common.{sym, ap, ◌∙◌, arith}
 use Rattle.std.proofs.Math.Arith.{bin_ind}
 use Rattle.std.proofs.lemmas.Nat.{and_comm, or_comm, or_lt, and_shr, or_shr}

@@ -1,5 +1,5 @@
 -- The law of reading holds.
-use Rattle.std.proofs.Common.{◌≡◌, ℕ, ◌+◌, ◌≤◌, List, [], ◌∷◌, ◌++◌, length, Ok, Err, sym, refl, ap, ◌∙◌, subst, arith}
+use Rattle.std.proofs.Common.{◌≡◌, ℕ, ◌≤◌, List, [], ◌∷◌, ◌++◌, length, Ok, Err, sym, refl, ap, ◌∙◌, subst, arith}
 use Rattle.free_lattice.specs.Terms.{Term, subterms}
 use Rattle.sheet.specs.Nodes.{Grounded, Distinct, terms, term_at}
 use Rattle.sheet.specs.State.{State, count}

@@ -1,5 +1,5 @@
 -- Reading only adds nodes behind those that were there.
-use Rattle.std.proofs.Common.{◌≡◌, ℕ, zero, suc, ◌+◌, ◌-◌, Bool, true, false, cond, ltb, List, [], ◌∷◌, ◌++◌, length, Some, None, Ok, Err, Option, Result, sym, refl, ap, ◌∙◌, subst, append_assoc, append-nil}
+use Rattle.std.proofs.Common.{◌≡◌, ℕ, zero, suc, Bool, true, false, cond, ltb, List, [], ◌∷◌, ◌++◌, length, Some, None, Ok, Err, Option, Result, sym, refl, ap, ◌∙◌, subst, append_assoc, append-nil}
 use Rattle.sheet.specs.declared.node.Node.{Node}
 use Rattle.sheet.specs.declared.node.Node.TheVariants as node
 use Rattle.reader.specs.declared.token.Kind.{Kind}
@@ -11,7 +11,6 @@ use Rattle.reader.specs.declared.reader.Held.TheVariants.{Nothing, One, Several}
 use Rattle.sheet.specs.Nodes.{find}
 use Rattle.sheet.specs.Enter.{grown}
 use Rattle.reader.specs.Faults.{Row}
-use Rattle.reader.specs.Cutting.{behind}
 use Rattle.reader.specs.Reading.{Outcome, ended, bind, refuse, next, or_end, due, enter_at, sign_of, read_sign, pair, add_part, close_list, is_close, read_parts, read_list, by_kind, read_term, read_whole}
 
 pub record Grown (ns ns' : List Node) : Type 0 where

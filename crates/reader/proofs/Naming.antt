@@ -1,5 +1,5 @@
 -- The code of a variable that a text is, by the grammar.
-use Rattle.std.proofs.Common.{◌≡◌, ℕ, List, [], ◌∷◌, drop, Some, None, Ok, Err, Option, Result, refl, ◌∙◌, subst, ap₂, arith}
+use Rattle.std.proofs.Common.{◌≡◌, ℕ, List, [], ◌∷◌, drop, Some, None, Ok, Err, Option, Result, refl, subst, ap₂, arith}
 use Rattle.reader.specs.declared.token.Kind.{Kind}
 use Rattle.reader.specs.declared.token.Kind.TheVariants.{Open, Close, Plus, Star, Variable}
 use Rattle.reader.specs.declared.token.Token.{Token}

@@ -1,5 +1,5 @@
 -- A written term whose nodes do not fit is refused as the sheet is full.
-use Rattle.std.proofs.Common.{◌≡◌, ℕ, zero, suc, ◌+◌, ◌-◌, ◌<◌, ◌≤◌, false, cond, ltb, ◌⊎◌, List, [], ◌∷◌, ◌++◌, length, drop, Some, None, Ok, Err, Option, sym, refl, ap, ◌∙◌, subst, ⊎_elim, append_assoc, append-nil, arith}
+use Rattle.std.proofs.Common.{◌≡◌, ℕ, zero, suc, ◌+◌, ◌<◌, ◌≤◌, false, cond, ltb, ◌⊎◌, List, [], ◌∷◌, ◌++◌, length, drop, Some, None, Ok, Err, Option, sym, refl, ap, ◌∙◌, subst, ⊎_elim, append_assoc, append-nil, arith}
 use Rattle.std.proofs.lemmas.List.{length_push}
 use Rattle.std.proofs.lemmas.Bool.Decides.{nat_tests}
 use Rattle.free_lattice.specs.Terms.{Term}
@@ -9,7 +9,7 @@ use Rattle.sheet.specs.Nodes.{find}
 use Rattle.refused.specs.Refused.{refused}
 use Rattle.sheet.specs.Enter.{numbered, grown}
 use Rattle.reader.specs.declared.token.Kind.{Kind}
-use Rattle.reader.specs.declared.token.Kind.TheVariants.{Close, Variable}
+use Rattle.reader.specs.declared.token.Kind.TheVariants.{Close}
 use Rattle.reader.specs.declared.token.Token.{Token}
 use Rattle.reader.specs.declared.reader.Sign.{Sign}
 use Rattle.reader.specs.declared.reader.Held.{Held}

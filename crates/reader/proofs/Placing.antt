@@ -2,7 +2,7 @@
 --   put ns n       the nodes after n was entered without regard to room, and its number
 --   placed ns t    the same for a term
 --   Good           what was placed is there, its node has the term, and exactly the missing terms were added
-use Rattle.std.proofs.Common.{◌≡◌, ℕ, zero, suc, ◌+◌, ◌<◌, ◌≤◌, true, ◌⊎◌, List, [], ◌∷◌, ◌++◌, length, get_or, Some, None, Option, sym, refl, ap, ◌∙◌, subst, ap₂, ⊎_elim, append_assoc, append-nil, arith, length-append}
+use Rattle.std.proofs.Common.{◌≡◌, ℕ, zero, suc, ◌<◌, ◌≤◌, true, List, [], ◌∷◌, ◌++◌, length, get_or, Some, None, Option, sym, refl, ap, ◌∙◌, subst, ap₂, ⊎_elim, append_assoc, append-nil, arith, length-append}
 use Rattle.std.proofs.lemmas.List.{length_push}
 use Rattle.free_lattice.specs.Terms.{Term, var, meet, join, subterms}
 use Rattle.sheet.specs.declared.node.Node.{Node}

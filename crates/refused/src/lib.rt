@@ -1,1 +1,3 @@
+#![tactic(auto)]
+
 // Refusals, by the numbers that users know them by.

@@ -1,10 +1,10 @@
 -- What trying means for the terms of the nodes: a grant is judged by the filling that the slots give.
-use Rattle.std.proofs.Common.{◌≡◌, ℕ, zero, suc, ◌+◌, ◌<◌, ◌≤◌, max, Bool, true, false, not, ltb, leb, List, [], ◌∷◌, length, get_or, take, set, Some, None, Ok, Err, Decides, Option, Result, sym, refl, ap, ◌∙◌, subst, ap₂, subst₂, arith}
+use Rattle.std.proofs.Common.{◌≡◌, ℕ, zero, suc, ◌+◌, ◌<◌, ◌≤◌, max, Bool, true, false, not, ltb, leb, List, [], ◌∷◌, length, get_or, take, set, Some, None, Ok, Decides, Option, sym, refl, ap, ◌∙◌, subst, ap₂, subst₂, arith}
 use Rattle.std.proofs.lemmas.List.{get_or-take, length-take-le, get_or-set_same, get_or_default}
 use Rattle.std.proofs.lemmas.Bool.{ltb-true, leb-true}
 use Rattle.free_lattice.specs.Lattices.{Meaning, Below, Laws, value, FailsIn}
 use Rattle.free_lattice.specs.Terms.{Term, var, meet, join}
-use Rattle.refused.specs.Refused.{Refused, refused, tested, and_then}
+use Rattle.refused.specs.Refused.{refused, tested, and_then}
 use Rattle.sheet.specs.declared.node.Node.{Node}
 use Rattle.sheet.specs.declared.node.Node.TheVariants.{Variable, Meet, Join}
 use Rattle.sheet.specs.Nodes.{node_at, find, Grounded, Distinct, terms, term_of, term_at}

@@ -1,7 +1,7 @@
-use Rattle.std.proofs.Common.{◌≡◌, Bool, true, false, ◌++◌, length, vec_items, codes, sym, refl, ap, ◌∙◌, append_assoc, arith}
+use Rattle.std.proofs.Common.{◌≡◌, ◌++◌, length, vec_items, codes, sym, refl, ap, ◌∙◌, append_assoc, arith}
 use Rattle.std.proofs.Output.{has_written_append, has_written_of_eq}
 use Rattle.std.proofs.lemmas.List.{take_all}
-use Rattle.desk.specs.Answers.{held_text, numbers_text, tried_text}
+use Rattle.desk.specs.Answers.{held_text, numbers_text}
 use Rattle.desk.proofs.Showing.{numbers_more}
 use Rattle.desk.proofs.answer.TriedDisplay.fmt.Goals as goal
 use Rattle.desk.proofs.answer.TriedDisplay.fmt.Goals.{then-self, else-self}

@@ -1,5 +1,4 @@
 use Rattle.std.proofs.Common.{sym, ap, ◌∙◌}
-use Rattle.sheet.specs.View.{state}
 use Rattle.sheet.proofs.Keep.{kept_none}
 use Rattle.command.specs.Commands.{called}
 use Rattle.desk.specs.Answers.{blanked}

@@ -1,4 +1,4 @@
-use Rattle.std.proofs.Common.{◌≡◌, Decides}
+use Rattle.std.proofs.Common.{Decides}
 use Prim.Native.Nat.{◌∣◌}
 use native.Mathlib.Nat.{pos_of_dvd_of_pos}
 use Rattle.std.proofs.lemmas.Bool.Decides.{Decides-at, Decides-like}
