@@ -8,7 +8,7 @@ use Rattle.std.specs.Str.{bytes_eq}
 use Rattle.sheet.specs.declared.node.Node.{Node}
 use Rattle.sheet.specs.declared.node.Node.TheVariants as node
 use Rattle.sheet.specs.Nodes.{find}
-use Rattle.reader.specs.Names.{variable}
+use Rattle.reader.specs.Names.{variable_code}
 use Rattle.text.specs.Words.{reach, numeral, both}
 
 -- the number behind the =
@@ -17,7 +17,7 @@ worth [] = None
 worth (b ∷ digits) = numeral digits
 
 abbrev pub assignment : List ℕ → Option (ℕ × ℕ)
-assignment w = both (variable (take (reach 61 w) w)) (worth (drop (reach 61 w) w))
+assignment w = both (variable_code (take (reach 61 w) w)) (worth (drop (reach 61 w) w))
 
 -- the slots s with x in the slot of a node that there is
 abbrev pub placed : Option ℕ → ℕ → List ℕ → List ℕ

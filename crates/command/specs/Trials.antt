@@ -11,13 +11,13 @@ use Rattle.command.specs.declared.trial.Trial.{Trial}
 
 -- a trial of the nodes u and v, with the words that tell its slots
 pub record Asked : Type 0 where
-  pub ground : Ground
+  pub site : Ground
   pub u : ℕ
   pub v : ℕ
   pub slots : List (List ℕ)
 
 abbrev pub trial_asked : Trial → Asked
-trial_asked t = record { ground = t.ground; u = t.u; v = t.v; slots = words_of t.slots.now }
+trial_asked t = record { site = t.site; u = t.u; v = t.v; slots = words_of t.slots.now }
 
 abbrev pub grounded : Ground × Bor (List ℕ) → Ground × List (List ℕ)
 grounded p = (p.0, words_of p.1.now)
@@ -42,7 +42,7 @@ ground_of (w ∷ ws) =
 abbrev pub of_nodes : Ground → Option ℕ → Option ℕ → List (List ℕ) → Option Asked
 of_nodes g None v ws = None
 of_nodes g (Some u) None ws = None
-of_nodes g (Some u) (Some v) ws = Some (record { ground = g; u = u; v = v; slots = ws })
+of_nodes g (Some u) (Some v) ws = Some (record { site = g; u = u; v = v; slots = ws })
 
 abbrev pub trial_on : Ground → List (List ℕ) → Option Asked
 trial_on g [] = None

@@ -17,7 +17,7 @@ pub enum Ground {
 // Whether u is below v, with the slots that the words `slots` tell.
 #[derive(Clone, Copy)]
 pub struct Trial<'a> {
-    pub ground: Ground,
+    pub site: Ground,
     pub u: usize,
     pub v: usize,
     pub slots: &'a [u8],
@@ -44,11 +44,11 @@ fn ground_of(words: &[u8]) -> Option<(Ground, &[u8])>
 pub(crate) fn trial_of(words: &[u8]) -> Option<Trial<'_>>
     ensures { option_map trial_asked result ≡ trial_of (words_of words.now) }
 {
-    let (ground, rest) = ground_of(words)?;
+    let (site, rest) = ground_of(words)?;
     let (u, rest) = split_word(rest)?;
     let (v, rest) = split_word(rest)?;
     Some(Trial {
-        ground,
+        site,
         u: number(u)? as usize,
         v: number(v)? as usize,
         slots: rest,

@@ -101,7 +101,7 @@ on_ground D f named.Frame = on_frame f D.frame
 
 abbrev pub trying_by : Desked → Asked → Option (List ℕ) → Reply
 trying_by D t None = misused verb.Try
-trying_by D t (Some s) = on_ground D (tried_on D.sheet.nodes t.u t.v s) t.ground
+trying_by D t (Some s) = on_ground D (tried_on D.sheet.nodes t.u t.v s) t.site
 
 abbrev pub trying : Desked → Asked → Reply
 trying D t = trying_by D t (slots_of D.sheet.nodes (max t.u t.v) t.slots)

@@ -1,7 +1,7 @@
 -- The lattices that a trial can be made in, as a script names them.
 --   Ground                       a lattice of numbers: its meaning, and a test for what it admits
 --   sets, divisors n, frame F    the three lattices
---   ground k, meaning k          the lattice that was chosen, and its meaning
+--   site k, meaning k            the lattice that was chosen, and its meaning
 use Rattle.std.specs.Prelude.{ℕ, ◌^◌, Bool, nat_lt}
 use Rattle.free_lattice.specs.Lattices.{Meaning}
 use Rattle.lattice.specs.Sets as by_sets
@@ -25,10 +25,10 @@ divisors n = record { means = by_divisors.divisors n; admits = λ x. by_divisors
 abbrev pub frame : Framed → Ground
 frame F = record { means = by_frame.frame F; admits = λ x. nat_lt x F.size }
 
-abbrev pub ground : Chosen → Ground
-ground Sets = sets
-ground (Divisors d) = divisors d.n
-ground (Frame f) = frame (frame_of f)
+abbrev pub site : Chosen → Ground
+site Sets = sets
+site (Divisors d) = divisors d.n
+site (Frame f) = frame (frame_of f)
 
 abbrev pub meaning : Chosen → Meaning ℕ
-meaning k = (ground k).means
+meaning k = (site k).means

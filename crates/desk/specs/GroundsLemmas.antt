@@ -13,7 +13,7 @@ use Rattle.divisors.specs.Divisibility.{divisors_bounded, decides_divides}
 use Rattle.frames.specs.Framing.{bounded}
 use Rattle.desk.specs.declared.chosen.Chosen.{Chosen}
 use Rattle.desk.specs.declared.chosen.Chosen.TheVariants.{Sets, Divisors, Frame}
-use Rattle.desk.specs.Grounds.{ground, meaning}
+use Rattle.desk.specs.Grounds.{site, meaning}
 
 pub chosen_laws : (k : Chosen) → Laws (meaning k)
 chosen_laws Sets = sets_laws
@@ -21,7 +21,7 @@ chosen_laws (Divisors d) = laws_of_bounded (divisors_bounded d.n d.positive)
 chosen_laws (Frame f) = laws_of_bounded (bounded f)
 
 -- the test of a ground tells what it admits
-pub decides : (k : Chosen) (x : ℕ) → Decides ((ground k).admits x) ((meaning k).admitted x)
+pub decides : (k : Chosen) (x : ℕ) → Decides ((site k).admits x) ((meaning k).admitted x)
 decides Sets x = Decides-ltb x (2 ^ 64)
 decides (Divisors d) x = decides_divides x d.n d.positive
 decides (Frame f) x = Decides-ltb x f.size

@@ -3,7 +3,7 @@ ghost use Rattle.std.specs.Prelude.{◌≡◌, IfOk, MatchResult};
 ghost use Rattle.sheet.specs.View.{nodes_of};
 ghost use Rattle.command.specs.Commands.{called};
 ghost use Rattle.command.specs.Trials.{trial_asked};
-ghost use Rattle.desk.specs.Grounds.{ground};
+ghost use Rattle.desk.specs.Grounds.{site};
 ghost use Rattle.desk.specs.Answers.{replied};
 ghost use Rattle.desk.specs.Desks.{cleared, entering, reading, drafting, relating, closing, tried_on, on_ground, trying, step};
 ghost use Rattle.desk.specs.View.{desk_of};
@@ -28,7 +28,7 @@ pub struct Desk {
 
 // Tries u and v in the lattice that was chosen.
 fn tried(lattice: &Chosen, sheet: &Sheet, u: usize, v: usize, mut slots: Vec<u64>) -> Answer
-    ensures { replied result ≡ tried_on (nodes_of sheet.now) u v slots.items (ground lattice.now) }
+    ensures { replied result ≡ tried_on (nodes_of sheet.now) u v slots.items (site lattice.now) }
 {
     match try_in(lattice, sheet, u, v, &mut slots) {
         Ok(holds) => Answer::Tried(Tried { holds, slots }),
@@ -113,10 +113,10 @@ impl Desk {
     }
 
     // Tries u and v on the ground that was named, if there is one.
-    fn on_ground(&self, ground: Ground, u: usize, v: usize, slots: Vec<u64>) -> Answer
-        ensures { replied result ≡ on_ground (desk_of self.now) (tried_on (nodes_of self.now.sheet) u v slots.items) ground }
+    fn on_ground(&self, site: Ground, u: usize, v: usize, slots: Vec<u64>) -> Answer
+        ensures { replied result ≡ on_ground (desk_of self.now) (tried_on (nodes_of self.now.sheet) u v slots.items) site }
     {
-        match ground {
+        match site {
             Ground::Sets => tried(&Chosen::Sets, &self.sheet, u, v, slots),
             Ground::Divisors(n) => match Divisors::of(n) {
                 Ok(divisors) => tried(&Chosen::Divisors(divisors), &self.sheet, u, v, slots),
@@ -135,7 +135,7 @@ impl Desk {
         let Some(slots) = slots_of(heap, &self.sheet, trial.u.max(trial.v), trial.slots)? else {
             return Ok(Answer::Misused(Verb::Try));
         };
-        Ok(self.on_ground(trial.ground, trial.u, trial.v, slots))
+        Ok(self.on_ground(trial.site, trial.u, trial.v, slots))
     }
 
     // Makes the call that a command asks for. It can only fail for want of memory, and then leaves the desk as it was.

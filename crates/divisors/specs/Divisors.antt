@@ -1,9 +1,9 @@
 -- The divisors of a number, with greatest common divisors and least common multiples.
---   making n                       the number whose divisors are made: n, unless it is 0
---   divides x n                    whether x is not 0 and divides n
---   gcd a b                        the greatest common divisor, by Euclid's divisions
---   lcm a b                        the least common multiple
---   divisors n                     the lattice of the divisors of n
+--   making n                     the number whose divisors are made: n, unless it is 0
+--   divides x n                  whether x is not 0 and divides n
+--   gcd a b                      the greatest common divisor, by Euclid's divisions
+--   lcm a b                      the least common multiple
+--   divisors n                   the lattice of the divisors of n
 --   GreatestCommonDivisor a b g  g divides a and b, and every number that does divides g and is at most g
 --   LeastCommonMultiple a b l    a and b divide l, and every positive number that both divide is a multiple of l and at least l
 use Rattle.std.specs.Prelude.{ℕ, zero, suc, ◌*◌, ◌/◌, ◌%◌, ◌<◌, ◌≤◌, Bool, cond, not, ◌&&◌, [], Ok, Err, Result, ◌==◌}

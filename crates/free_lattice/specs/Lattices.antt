@@ -7,8 +7,8 @@
 --   value m ρ t    the value of the term t, where the variable of code c has the element ρ c
 --   Filling m ρ    ρ fills the variables with admitted elements
 --   Fails m ρ s t  the filling ρ puts the value of s not below that of t
---   FailsIn m s t some filling with admitted elements does
---   HoldsIn L s t every filling with elements that L admits puts the value of s below that of t
+--   FailsIn m s t  some filling with admitted elements does
+--   HoldsIn L s t  every filling with elements that L admits puts the value of s below that of t
 use Rattle.std.specs.Prelude.{◌≡◌, Bool, ℕ, T}
 use Rattle.free_lattice.specs.Terms.{Term, var, meet, join}
 

@@ -1,7 +1,7 @@
 -- Texts that name a variable.
---   variable text   the code of the variable that the text is: its one token, as the cutter cuts it
---   Names text c    the text spells the variable of code c, and nothing else
---   Naming text r   r is the code that the text names, if it names one
+--   variable_code text   the code of the variable that the text is: its one token, as the cutter cuts it
+--   Names text c         the text spells the variable of code c, and nothing else
+--   Naming text r        r is the code that the text names, if it names one
 use Rattle.std.specs.Prelude.{◌≡◌, ℕ, List, [], ◌∷◌, drop, Some, None, Ok, Err, Option, Result}
 use Rattle.reader.specs.declared.token.Kind.{Kind}
 use Rattle.reader.specs.declared.token.Kind.TheVariants.{Open, Close, Plus, Star, Variable}
@@ -25,8 +25,8 @@ alone (Ok (Some t)) (Err f) = None
 alone (Ok (Some t)) (Ok None) = code t.kind
 alone (Ok (Some t)) (Ok (Some u)) = None
 
-abbrev pub variable : List ℕ → Option ℕ
-variable text = alone (cut 0 text) (cut (behind 0 text) (drop (behind 0 text) text))
+abbrev pub variable_code : List ℕ → Option ℕ
+variable_code text = alone (cut 0 text) (cut (behind 0 text) (drop (behind 0 text) text))
 
 abbrev pub Names : List ℕ → ℕ → Type 0
 Names text c = Spelled text (Variable c ∷ [])

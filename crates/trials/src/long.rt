@@ -78,20 +78,34 @@ static REFUSED: &[Refused] = &[
 
 fn all_granted(rt: &impl Abort, heap: Global, rows: &[Granted]) -> Result<(), Fail> {
     let mut sheet = Sheet::blank(heap)?;
-    for (parts, node) in rows {
+    for (row, (parts, node)) in rows.iter().enumerate() {
         let text = woven(heap, parts)?;
         let count = node.saturating_add(1);
         sheet.keep(0);
-        granted(rt, &mut sheet, &text, *node, count)?;
+        granted(
+            rt,
+            &mut sheet,
+            &text,
+            *node,
+            count,
+            format_args!("row {row}"),
+        );
     }
     Ok(())
 }
 
 fn all_refused(rt: &impl Abort, heap: Global, rows: &[Refused]) -> Result<(), Fail> {
     let mut sheet = Sheet::blank(heap)?;
-    for (parts, number, place) in rows {
+    for (row, (parts, number, place)) in rows.iter().enumerate() {
         let text = woven(heap, parts)?;
-        refused(rt, &mut sheet, &text, *number, *place)?;
+        refused(
+            rt,
+            &mut sheet,
+            &text,
+            *number,
+            *place,
+            format_args!("row {row}"),
+        )?;
     }
     Ok(())
 }

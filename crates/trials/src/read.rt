@@ -2,6 +2,7 @@
 use crate::shared::{Granted, Refused, all_granted, all_refused, granted};
 use sheet::{Node, Sheet};
 use std::alloc::Global;
+use std::fmt::Display;
 use std::process::Abort;
 use std::test::Fail;
 
@@ -12,13 +13,12 @@ const Y: Node = Node::Variable(2424);
 const Z: Node = Node::Variable(2525);
 
 // The sheet has these nodes and no others.
-fn holds(rt: &impl Abort, sheet: &mut Sheet, nodes: &[Node]) -> Result<(), Fail> {
-    assert_eq!(rt; sheet.count(), nodes.len(), "nodes {nodes:?}");
+fn holds(rt: &impl Abort, sheet: &mut Sheet, nodes: &[Node], label: impl Display + Drop) {
+    assert_eq!(rt; sheet.count(), nodes.len(), "{label}");
     for (k, node) in nodes.iter().enumerate() {
-        assert_eq!(rt; sheet.enter(*node)?, k, "nodes {nodes:?}");
+        assert_eq!(rt; sheet.enter(*node), Ok(k), "{label}");
     }
-    assert_eq!(rt; sheet.count(), nodes.len(), "nodes {nodes:?}");
-    Ok(())
+    assert_eq!(rt; sheet.count(), nodes.len(), "{label}");
 }
 
 const X_OR_Y: &[Node] = &[X, Y, Node::Join(0, 1)];
@@ -376,9 +376,24 @@ fn all_built(rt: &impl Abort, heap: Global, rows: &[Built]) -> Result<(), Fail> 
     for (text, nodes) in rows {
         sheet.keep(0);
         let last = nodes.len().saturating_sub(1);
-        granted(rt, &mut sheet, text, last, nodes.len())?;
-        holds(rt, &mut sheet, nodes)?;
-        granted(rt, &mut sheet, text, last, nodes.len())?;
+        let count = nodes.len();
+        granted(
+            rt,
+            &mut sheet,
+            text,
+            last,
+            count,
+            format_args!("text {text:?}"),
+        );
+        holds(rt, &mut sheet, nodes, format_args!("text {text:?}"));
+        granted(
+            rt,
+            &mut sheet,
+            text,
+            last,
+            count,
+            format_args!("again {text:?}"),
+        );
     }
     Ok(())
 }
@@ -396,17 +411,24 @@ fn terms(rt: HostRuntime) -> Result<(), Fail> {
 #[test]
 fn one_after_another(rt: HostRuntime) -> Result<(), Fail> {
     let mut sheet = Sheet::blank(rt.alloc())?;
-    all_granted(&rt, &mut sheet, ONE_AFTER_ANOTHER)?;
-    holds(&rt, &mut sheet, AFTER_THEM)
+    all_granted(&rt, &mut sheet, ONE_AFTER_ANOTHER);
+    holds(&rt, &mut sheet, AFTER_THEM, "one after another");
+    Ok(())
 }
 
 // The texts are refused on a blank sheet, and on one that has x, y and their join the other way round.
 fn all_faulty(rt: &impl Abort, heap: Global, rows: &[Refused]) -> Result<(), Fail> {
     let mut sheet = Sheet::blank(heap)?;
     all_refused(rt, &mut sheet, rows)?;
-    granted(rt, &mut sheet, b"(+ y x)", 2, 3)?;
+    granted(rt, &mut sheet, b"(+ y x)", 2, 3, "(+ y x)");
     all_refused(rt, &mut sheet, rows)?;
-    holds(rt, &mut sheet, &[Y, X, Node::Join(0, 1)])
+    holds(
+        rt,
+        &mut sheet,
+        &[Y, X, Node::Join(0, 1)],
+        "after the faults",
+    );
+    Ok(())
 }
 
 #[test]

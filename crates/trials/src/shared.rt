@@ -2,6 +2,7 @@
 use reader::{Layer, read};
 use sheet::{Node, Sheet};
 use std::alloc::{AllocError, Global};
+use std::fmt::Display;
 use std::process::Abort;
 use std::test::Fail;
 
@@ -21,23 +22,17 @@ pub(crate) fn fill(rt: &impl Abort, sheet: &mut Sheet, n: u8) -> Result<(), Fail
     Ok(())
 }
 
-// As much of a text as a failed trial shows.
-pub(crate) fn shown(text: &[u8]) -> &[u8] {
-    &text[..text.len().min(80)]
-}
-
-// The text is read as the node, and then there are `count` nodes.
+// The text is read as the node, and then there are `count` nodes. A trial that fails says its label.
 pub(crate) fn granted(
     rt: &impl Abort,
     sheet: &mut Sheet,
     text: &[u8],
     node: usize,
     count: usize,
-) -> Result<(), Fail> {
-    let shown = shown(text);
-    assert_eq!(rt; read(sheet, text)?, node, "text {shown:?}");
-    assert_eq!(rt; sheet.count(), count, "text {shown:?}");
-    Ok(())
+    label: impl Display + Drop,
+) {
+    assert_eq!(rt; read(sheet, text), Ok(node), "{label}");
+    assert_eq!(rt; sheet.count(), count, "{label}");
 }
 
 // The layer that finds the faults of a number.
@@ -56,33 +51,31 @@ pub(crate) fn refused(
     text: &[u8],
     number: u8,
     place: usize,
+    label: impl Display + Drop,
 ) -> Result<(), Fail> {
-    let shown = shown(text);
     let count = sheet.count();
     match read(sheet, text) {
-        Ok(node) => return Err(Fail::new(format_args!("text {shown:?} is granted as node {node}"))),
+        Ok(node) => return Err(Fail::new(format_args!("{label}: it is granted as node {node}"))),
         Err(fault) => {
-            assert_eq!(rt;
-                (fault.number(), fault.place),
-                (number, place),
-                "text {shown:?}"
-            );
-            assert_eq!(rt; fault.layer, layer(number), "text {shown:?}");
+            assert_eq!(rt; (fault.number(), fault.place), (number, place), "{label}");
+            assert_eq!(rt; fault.layer, layer(number), "{label}");
         }
     }
-    assert_eq!(rt; sheet.count(), count, "text {shown:?}");
+    assert_eq!(rt; sheet.count(), count, "{label}");
     Ok(())
 }
 
-pub(crate) fn all_granted(
-    rt: &impl Abort,
-    sheet: &mut Sheet,
-    rows: &[Granted],
-) -> Result<(), Fail> {
+pub(crate) fn all_granted(rt: &impl Abort, sheet: &mut Sheet, rows: &[Granted]) {
     for (text, node, count) in rows {
-        granted(rt, sheet, text, *node, *count)?;
+        granted(
+            rt,
+            sheet,
+            text,
+            *node,
+            *count,
+            format_args!("text {text:?}"),
+        );
     }
-    Ok(())
 }
 
 pub(crate) fn all_refused(
@@ -91,7 +84,14 @@ pub(crate) fn all_refused(
     rows: &[Refused],
 ) -> Result<(), Fail> {
     for (text, number, place) in rows {
-        refused(rt, sheet, text, *number, *place)?;
+        refused(
+            rt,
+            sheet,
+            text,
+            *number,
+            *place,
+            format_args!("text {text:?}"),
+        )?;
     }
     Ok(())
 }

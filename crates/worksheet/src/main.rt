@@ -10,6 +10,7 @@ mod words;
 use anyhow::anyhow;
 use script::transcribe;
 use std::io::Read;
+use std::process::ExitCode;
 use std::{env, fs};
 
 // The bytes of the file that the one argument names, or of the standard input.
@@ -36,10 +37,12 @@ fn run(rt: &HostRuntime) -> anyhow::Result<()> {
     Ok(())
 }
 
-fn main(rt: HostRuntime) -> anyhow::Result<()> {
-    let result = run(&rt);
-    if let Err(e) = &result {
-        let _ = eprintln!(rt; "{e}");
+fn main(rt: HostRuntime) -> ExitCode {
+    match run(&rt) {
+        Ok(()) => ExitCode::SUCCESS,
+        Err(e) => {
+            let _ = eprintln!(rt; "{e}");
+            ExitCode::FAILURE
+        }
     }
-    result
 }

@@ -3,7 +3,7 @@ use Rattle.std.proofs.lemmas.List.{with_items_is}
 use Rattle.sheet.specs.View.{nodes_of}
 use Rattle.trying.specs.Refused.{row}
 use Rattle.trying.proofs.Numbers.{tried_answers}
-use Rattle.desk.specs.Grounds.{ground, meaning}
+use Rattle.desk.specs.Grounds.{site, meaning}
 use Rattle.desk.specs.Answers.{tried}
 use Rattle.desk.specs.Desks.{granted, tried_on}
 use Rattle.desk.specs.GroundsLemmas.{decides}
@@ -15,11 +15,11 @@ returns-in-Ok c =
     let b = c.in-Ok.holds in
     let t = c.try_in.new.slots in
     ap (tried b) (with_items_is c.args.slots t (c.try_in.auto.slots ∙ c.deref_mut.ensures.len))
-    ∙ ap (granted (λ p. tried p.0 p.1)) (tried_answers (meaning k) (ground k).admits (decides k) (nodes_of c.args.sheet.now) c.deref_mut.result.now c.args.u c.args.v t (Ok b) c.in-Ok.ensures.tried)
-    ∙ ap (λ s. tried_on (nodes_of c.args.sheet.now) c.args.u c.args.v s (ground k)) c.deref_mut.ensures.value
+    ∙ ap (granted (λ p. tried p.0 p.1)) (tried_answers (meaning k) (site k).admits (decides k) (nodes_of c.args.sheet.now) c.deref_mut.result.now c.args.u c.args.v t (Ok b) c.in-Ok.ensures.tried)
+    ∙ ap (λ s. tried_on (nodes_of c.args.sheet.now) c.args.u c.args.v s (site k)) c.deref_mut.ensures.value
 
 pub returns-in-Err : goal.returns-in-Err
 returns-in-Err c =
     let k = c.args.lattice.now in
-    ap (granted (λ p. tried p.0 p.1)) (tried_answers (meaning k) (ground k).admits (decides k) (nodes_of c.args.sheet.now) c.deref_mut.result.now c.args.u c.args.v c.try_in.new.slots (Err (row c.in-Err.refusal)) c.in-Err.ensures.tried)
-    ∙ ap (λ s. tried_on (nodes_of c.args.sheet.now) c.args.u c.args.v s (ground k)) c.deref_mut.ensures.value
+    ap (granted (λ p. tried p.0 p.1)) (tried_answers (meaning k) (site k).admits (decides k) (nodes_of c.args.sheet.now) c.deref_mut.result.now c.args.u c.args.v c.try_in.new.slots (Err (row c.in-Err.refusal)) c.in-Err.ensures.tried)
+    ∙ ap (λ s. tried_on (nodes_of c.args.sheet.now) c.args.u c.args.v s (site k)) c.deref_mut.ensures.value
