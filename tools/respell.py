@@ -8,9 +8,9 @@ makes for goals and steps, keep their spelling. Strings, comments, inputs, outpu
 import collections
 import pathlib
 import re
+import sys
 
 TOKEN = re.compile(r"[A-Za-z_][A-Za-z0-9_']*(?:-[A-Za-z0-9_']+)+")
-OPERATOR = re.compile(r"^[a-z0-9']")
 files = sorted(p for p in pathlib.Path("crates").rglob("*") if p.suffix in (".antt", ".rt") and "out" not in p.parts)
 antt = [p for p in files if p.suffix == ".antt"]
 
@@ -30,8 +30,6 @@ for p in files:
         if not mine or made or "contracts" in parts:
             for name in names.split(","):
                 foreign.update(TOKEN.findall(name.split(" as ")[0]))
-    for path in re.findall(r"use ([\w.◌'+-]+)$", p.read_text(), re.M):
-        pass
 
 # What the repository defines: signatures, fields, constructors, and what is bound by let and λ.
 own = collections.Counter()
@@ -71,8 +69,6 @@ def respelled(name):
 
 names = {name: respelled(name) for name in own if name not in foreign}
 if __name__ == "__main__":
-    import sys
-
     texts = {p: p.read_text() for p in files}
     taken = set()
     for text in texts.values():
