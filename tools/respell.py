@@ -81,7 +81,7 @@ if __name__ == "__main__":
         for p, text in texts.items():
             out = []
             for line in text.split("\n"):
-                head, sep, comment = (line, "", "")
+                head, comment = line, ""
                 mark = "--" if p.suffix == ".antt" else "//"
                 m = re.search(r"(^|\s)" + mark + r"( |$)", line)
                 if m:

@@ -8,5 +8,5 @@ mod verb;
 
 pub use command::{Command, Line, parse};
 pub use slots::slots_of;
-pub use trial::{Ground, Trial};
+pub use trial::{Site, Trial};
 pub use verb::Verb;

@@ -2,13 +2,13 @@
 ghost use Rattle.std.specs.Prelude.{◌≡◌};
 ghost use Rattle.std.specs.Option.{option_map};
 ghost use Rattle.text.specs.Words.{words_of};
-ghost use Rattle.command.specs.Trials.{ground_of, grounded, trial_of, trial_asked};
+ghost use Rattle.command.specs.Trials.{site_of, sited, trial_of, trial_asked};
 
 use text::{is, number, split_word};
 
 // The lattice that the trial is made in: sets, the divisors of a number, or the frame that was closed last.
 #[derive(Clone, Copy)]
-pub enum Ground {
+pub enum Site {
     Sets,
     Divisors(u32),
     Frame,
@@ -17,34 +17,34 @@ pub enum Ground {
 // Whether u is below v, with the slots that the words `slots` tell.
 #[derive(Clone, Copy)]
 pub struct Trial<'a> {
-    pub site: Ground,
+    pub site: Site,
     pub u: usize,
     pub v: usize,
     pub slots: &'a [u8],
 }
 
-// The ground, and what stands behind it: sets, divisors D or frame.
-fn ground_of(words: &[u8]) -> Option<(Ground, &[u8])>
-    ensures { option_map grounded result ≡ ground_of (words_of words.now) }
+// The site, and what stands behind it: sets, divisors D or frame.
+fn site_of(words: &[u8]) -> Option<(Site, &[u8])>
+    ensures { option_map sited result ≡ site_of (words_of words.now) }
 {
     let (first, rest) = split_word(words)?;
     if is(first, "sets") {
-        Some((Ground::Sets, rest))
+        Some((Site::Sets, rest))
     } else if is(first, "divisors") {
         let (d, rest) = split_word(rest)?;
-        Some((Ground::Divisors(u32::try_from(number(d)?).ok()?), rest))
+        Some((Site::Divisors(u32::try_from(number(d)?).ok()?), rest))
     } else if is(first, "frame") {
-        Some((Ground::Frame, rest))
+        Some((Site::Frame, rest))
     } else {
         None
     }
 }
 
-// The ground, two nodes, and the slots.
+// The site, two nodes, and the slots.
 pub(crate) fn trial_of(words: &[u8]) -> Option<Trial<'_>>
     ensures { option_map trial_asked result ≡ trial_of (words_of words.now) }
 {
-    let (site, rest) = ground_of(words)?;
+    let (site, rest) = site_of(words)?;
     let (u, rest) = split_word(rest)?;
     let (v, rest) = split_word(rest)?;
     Some(Trial {

@@ -14,12 +14,12 @@ use Rattle.frames.specs.Closing as close
 use Rattle.divisors.specs.Divisors.{making}
 use Rattle.trying.specs.Numbers as numbers
 use Rattle.command.specs.declared.verb.Verb.TheVariants as verb
-use Rattle.command.specs.declared.trial.Ground.TheVariants as named
-use Rattle.command.specs.declared.trial.Ground as named_ground
+use Rattle.command.specs.declared.trial.Site.TheVariants as named
+use Rattle.command.specs.declared.trial.Site as named_site
 use Rattle.command.specs.Trials.{Asked}
 use Rattle.command.specs.Slots.{slots_of}
 use Rattle.command.specs.Commands.{Call, enters, reads, blanks, drafts, relates, closes, tries}
-use Rattle.desk.specs.Grounds.{Ground, sets, divisors, frame}
+use Rattle.desk.specs.Sites.{Site, sets, divisors, frame}
 use Rattle.desk.specs.Answers.{Reply, node, blanked, drafted, related, framed, tried, refuses, faulted, no_draft, no_frame, misused}
 
 pub record Desked : Type 0 where
@@ -81,27 +81,27 @@ closing_by D (Some d) = closed D (close.closing d)
 abbrev pub closing : Desked → Outcome
 closing D = closing_by D D.draft
 
--- a trial of u and v with the slots s on a ground
-abbrev pub tried_on : List Node → ℕ → ℕ → List ℕ → Ground → Reply
+-- a trial of u and v with the slots s on a site
+abbrev pub tried_on : List Node → ℕ → ℕ → List ℕ → Site → Reply
 tried_on ns u v s g = granted (λ p. tried p.0 p.1) (numbers.tries g.admits g.means.meet g.means.join ns u v s)
 
-abbrev pub on_divisors : (Ground → Reply) → Result ℕ Refused → Reply
+abbrev pub on_divisors : (Site → Reply) → Result ℕ Refused → Reply
 on_divisors f (Ok n) = f (divisors n)
 on_divisors f (Err r) = refuses r
 
-abbrev pub on_frame : (Ground → Reply) → Option Framed → Reply
+abbrev pub on_frame : (Site → Reply) → Option Framed → Reply
 on_frame f (Some F) = f (frame F)
 on_frame f None = no_frame
 
--- the ground that was named, if there is one
-abbrev pub on_ground : Desked → (Ground → Reply) → named_ground.Ground → Reply
-on_ground D f named.Sets = f sets
-on_ground D f (named.Divisors n) = on_divisors f (making n)
-on_ground D f named.Frame = on_frame f D.frame
+-- the site that was named, if there is one
+abbrev pub on_site : Desked → (Site → Reply) → named_site.Site → Reply
+on_site D f named.Sets = f sets
+on_site D f (named.Divisors n) = on_divisors f (making n)
+on_site D f named.Frame = on_frame f D.frame
 
 abbrev pub trying_by : Desked → Asked → Option (List ℕ) → Reply
 trying_by D t None = misused verb.Try
-trying_by D t (Some s) = on_ground D (tried_on D.sheet.nodes t.u t.v s) t.site
+trying_by D t (Some s) = on_site D (tried_on D.sheet.nodes t.u t.v s) t.site
 
 abbrev pub trying : Desked → Asked → Reply
 trying D t = trying_by D t (slots_of D.sheet.nodes (max t.u t.v) t.slots)

@@ -1,5 +1,5 @@
-pub mod Grounds
+pub mod Sites
 pub mod Answers
 pub mod Desks
 pub mod View
-pub mod GroundsLemmas
+pub mod SitesLemmas

@@ -1,8 +1,8 @@
 // The lattice that a trial is made in. Its elements are the numbers of a script, of up to 64 bits, and the lattice
 // underneath admits no number that is too wide for its own elements.
 ghost use Rattle.std.specs.Prelude.{◌≡◌, ◌%◌, ◌^◌};
-ghost use Rattle.desk.specs.Grounds.{meaning};
-ghost use Rattle.desk.specs.GroundsLemmas.{chosen_laws};
+ghost use Rattle.desk.specs.Sites.{meaning};
+ghost use Rattle.desk.specs.SitesLemmas.{chosen_laws};
 
 use divisors::Divisors;
 use frames::Frame;

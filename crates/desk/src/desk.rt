@@ -3,14 +3,14 @@ ghost use Rattle.std.specs.Prelude.{◌≡◌, IfOk, MatchResult};
 ghost use Rattle.sheet.specs.View.{nodes_of};
 ghost use Rattle.command.specs.Commands.{called};
 ghost use Rattle.command.specs.Trials.{trial_asked};
-ghost use Rattle.desk.specs.Grounds.{site};
+ghost use Rattle.desk.specs.Sites.{site};
 ghost use Rattle.desk.specs.Answers.{replied};
-ghost use Rattle.desk.specs.Desks.{cleared, entering, reading, drafting, relating, closing, tried_on, on_ground, trying, step};
+ghost use Rattle.desk.specs.Desks.{cleared, entering, reading, drafting, relating, closing, tried_on, on_site, trying, step};
 ghost use Rattle.desk.specs.View.{desk_of};
 
 use crate::answer::{Answer, Refusal, Tried};
 use crate::chosen::Chosen;
-use command::{Command, Ground, Trial, Verb, slots_of};
+use command::{Command, Site, Trial, Verb, slots_of};
 use divisors::Divisors;
 use frames::{Draft, Frame};
 use reader::read;
@@ -112,17 +112,17 @@ impl Desk {
         }
     }
 
-    // Tries u and v on the ground that was named, if there is one.
-    fn on_ground(&self, site: Ground, u: usize, v: usize, slots: Vec<u64>) -> Answer
-        ensures { replied result ≡ on_ground (desk_of self.now) (tried_on (nodes_of self.now.sheet) u v slots.items) site }
+    // Tries u and v on the site that was named, if there is one.
+    fn on_site(&self, site: Site, u: usize, v: usize, slots: Vec<u64>) -> Answer
+        ensures { replied result ≡ on_site (desk_of self.now) (tried_on (nodes_of self.now.sheet) u v slots.items) site }
     {
         match site {
-            Ground::Sets => tried(&Chosen::Sets, &self.sheet, u, v, slots),
-            Ground::Divisors(n) => match Divisors::of(n) {
+            Site::Sets => tried(&Chosen::Sets, &self.sheet, u, v, slots),
+            Site::Divisors(n) => match Divisors::of(n) {
                 Ok(divisors) => tried(&Chosen::Divisors(divisors), &self.sheet, u, v, slots),
                 Err(refusal) => Answer::Refused(Refusal::Divisors(refusal)),
             },
-            Ground::Frame => match self.frame {
+            Site::Frame => match self.frame {
                 Some(frame) => tried(&Chosen::Frame(frame), &self.sheet, u, v, slots),
                 None => Answer::NoFrame,
             },
@@ -135,7 +135,7 @@ impl Desk {
         let Some(slots) = slots_of(heap, &self.sheet, trial.u.max(trial.v), trial.slots)? else {
             return Ok(Answer::Misused(Verb::Try));
         };
-        Ok(self.on_ground(trial.site, trial.u, trial.v, slots))
+        Ok(self.on_site(trial.site, trial.u, trial.v, slots))
     }
 
     // Makes the call that a command asks for. It can only fail for want of memory, and then leaves the desk as it was.

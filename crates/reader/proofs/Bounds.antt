@@ -20,7 +20,7 @@ number_small : (ds : List ℕ) (n : ℕ) → number ds ≡ Some n → n ≤ 100
 number_small [] n h = let z : 0 ≡ n = cc in omega arith
 number_small (d ∷ []) n h = grind (arith, nat_tests)
 number_small (t ∷ d ∷ []) n h = grind (arith, nat_tests)
-number_small (t ∷ d ∷ e ∷ ds) n h = let z : ◌≡◌ {A = ℕ} 0 1 = cc in absurd (omega arith)
+number_small (t ∷ d ∷ e ∷ ds) n h = absurd (cc)
 
 module _ (p : ℕ) (t : Token) where
   letter_known : (b : ℕ) → is_ascii_lowercase b ≡ true → (o : Option ℕ) → ((n : ℕ) → o ≡ Some n → n ≤ 100) → token_at p 2 (variable b o) ≡ Ok (Some t) → Known t.kind

@@ -55,7 +55,7 @@ written_coded text t w = tree_coded t (spelled_known w.spelled)
 
 module _ (text : List ℕ) (S : State) (few : count S ≤ 60) (grounded : Grounded S.nodes) (distinct : Distinct S.nodes) where
   granted : (o : Outcome ℕ) → read_whole text S.nodes 0 ≡ o → (k : ℕ) → (finished S o).1 ≡ Ok k → Stands text S.nodes (finished S o).0.nodes k
-  granted (ended (Err f) ns at) e k h = let z : ◌≡◌ {A = ℕ} 0 1 = cc in absurd (omega arith)
+  granted (ended (Err f) ns at) e k h = absurd (cc)
   granted (ended (Ok j) ns at) e k h =
       let j_is : j ≡ k = cc in
       let w = whole_sound text S.nodes few j ns at e in

@@ -1,5 +1,5 @@
 -- The code of a variable that a text is, by the grammar.
-use Rattle.std.proofs.Common.{◌≡◌, ℕ, List, [], ◌∷◌, drop, Some, None, Ok, Err, Option, Result, refl, subst, ap₂, arith}
+use Rattle.std.proofs.Common.{◌≡◌, ℕ, List, [], ◌∷◌, drop, Some, None, Ok, Err, Option, Result, refl, subst, ap₂}
 use Rattle.reader.specs.declared.token.Kind.{Kind}
 use Rattle.reader.specs.declared.token.Kind.TheVariants.{Open, Close, Plus, Star, Variable}
 use Rattle.reader.specs.declared.token.Token.{Token}
@@ -10,10 +10,10 @@ use Rattle.reader.specs.Names.{code, alone, variable_code, Names, Naming}
 use Rattle.reader.proofs.Spelling.{cuts_law}
 
 code_kind : (k : Kind) (c : ℕ) → code k ≡ Some c → k ≡ Variable c
-code_kind Open c h = let z : ◌≡◌ {A = ℕ} 0 1 = cc in absurd (omega arith)
-code_kind Close c h = let z : ◌≡◌ {A = ℕ} 0 1 = cc in absurd (omega arith)
-code_kind Plus c h = let z : ◌≡◌ {A = ℕ} 0 1 = cc in absurd (omega arith)
-code_kind Star c h = let z : ◌≡◌ {A = ℕ} 0 1 = cc in absurd (omega arith)
+code_kind Open c h = cc
+code_kind Close c h = cc
+code_kind Plus c h = cc
+code_kind Star c h = cc
 code_kind (Variable d) c h = cc
 
 module _ (text : List ℕ) where
@@ -24,10 +24,10 @@ module _ (text : List ℕ) where
   named c = go (cut 0 text) (cut (behind 0 text) rest) refl refl
     where
       go : (r s : Result (Option Token) Row) → cut 0 text ≡ r → cut (behind 0 text) rest ≡ s → alone r s ≡ Some c → Names text c
-      go (Err f) s e g h = let z : ◌≡◌ {A = ℕ} 0 1 = cc in absurd (omega arith)
-      go (Ok None) s e g h = let z : ◌≡◌ {A = ℕ} 0 1 = cc in absurd (omega arith)
-      go (Ok (Some t)) (Err f) e g h = let z : ◌≡◌ {A = ℕ} 0 1 = cc in absurd (omega arith)
-      go (Ok (Some t)) (Ok (Some u)) e g h = let z : ◌≡◌ {A = ℕ} 0 1 = cc in absurd (omega arith)
+      go (Err f) s e g h = absurd (cc)
+      go (Ok None) s e g h = absurd (cc)
+      go (Ok (Some t)) (Err f) e g h = absurd (cc)
+      go (Ok (Some t)) (Ok (Some u)) e g h = absurd (cc)
       go (Ok (Some t)) (Ok None) e g h =
           subst (λ k. Spelled text (k ∷ [])) (code_kind t.kind c h) ((cuts_law text 0).some t e [] ((cuts_law text (behind 0 text)).none g))
 

@@ -74,16 +74,16 @@ adds_append xs ws (new h a) b = new h (adds_append xs ws a b)
 module _ (ts : List Term) (m : ℕ) (apart : (i j : ℕ) → i < m → j < m → get_or ts i (var 0) ≡ get_or ts j (var 0) → i ≡ j) where
   made_inj : (x y : Node) → fits m x ≡ true → fits m y ≡ true → term_of ts x ≡ term_of ts y → x ≡ y
   made_inj (node.Variable c) (node.Variable d) f g h = let z : c ≡ d = cc in ap node.Variable z
-  made_inj (node.Variable c) (node.Meet a b) f g h = let z : ◌≡◌ {A = ℕ} 0 1 = cc in absurd (omega arith)
-  made_inj (node.Variable c) (node.Join a b) f g h = let z : ◌≡◌ {A = ℕ} 0 1 = cc in absurd (omega arith)
-  made_inj (node.Meet a b) (node.Variable d) f g h = let z : ◌≡◌ {A = ℕ} 0 1 = cc in absurd (omega arith)
+  made_inj (node.Variable c) (node.Meet a b) f g h = absurd (cc)
+  made_inj (node.Variable c) (node.Join a b) f g h = absurd (cc)
+  made_inj (node.Meet a b) (node.Variable d) f g h = absurd (cc)
   made_inj (node.Meet a b) (node.Meet x y) f g h =
       let p = parts_below m a b f in
       let q = parts_below m x y g in
       ap₂ node.Meet (apart a x p.0 q.0 cc) (apart b y p.1 q.1 cc)
-  made_inj (node.Meet a b) (node.Join x y) f g h = let z : ◌≡◌ {A = ℕ} 0 1 = cc in absurd (omega arith)
-  made_inj (node.Join a b) (node.Variable d) f g h = let z : ◌≡◌ {A = ℕ} 0 1 = cc in absurd (omega arith)
-  made_inj (node.Join a b) (node.Meet x y) f g h = let z : ◌≡◌ {A = ℕ} 0 1 = cc in absurd (omega arith)
+  made_inj (node.Meet a b) (node.Join x y) f g h = absurd (cc)
+  made_inj (node.Join a b) (node.Variable d) f g h = absurd (cc)
+  made_inj (node.Join a b) (node.Meet x y) f g h = absurd (cc)
   made_inj (node.Join a b) (node.Join x y) f g h =
       let p = parts_below m a b f in
       let q = parts_below m x y g in

@@ -24,7 +24,7 @@ use Rattle.reader.proofs.Placing.{put_by, put, placed, combined}
 
 -- what an outcome tells
 err_clash : {A : Type 0} (e : Row) (a : A) (ns ns' : List Node) (at at' : ℕ) → ◌≡◌ {A = Outcome A} (ended (Err e) ns at) (ended (Ok a) ns' at') → ⊥
-err_clash e a ns ns' at at' h = let z : ◌≡◌ {A = ℕ} 0 1 = cc in omega arith
+err_clash e a ns ns' at at' h = cc
 
 pub record Same {A : Type 0} (a b : A) (ns ns' : List Node) (at at' : ℕ) : Type 0 where
   pub value : a ≡ b
@@ -174,10 +174,10 @@ module _ (left : ℕ) (s : Sign) (ns₀ : List Node) where
 
 close_kind : (k : Kind) → is_close k ≡ true → k ≡ Close
 close_kind Close h = refl
-close_kind Open h = let z : ◌≡◌ {A = ℕ} 0 1 = cc in absurd (omega arith)
-close_kind Plus h = let z : ◌≡◌ {A = ℕ} 0 1 = cc in absurd (omega arith)
-close_kind Star h = let z : ◌≡◌ {A = ℕ} 0 1 = cc in absurd (omega arith)
-close_kind (Variable c) h = let z : ◌≡◌ {A = ℕ} 0 1 = cc in absurd (omega arith)
+close_kind Open h = absurd (cc)
+close_kind Plus h = absurd (cc)
+close_kind Star h = absurd (cc)
+close_kind (Variable c) h = absurd (cc)
 
 pub record Listed (left : ℕ) (text : List ℕ) (s : Sign) (ns₀ : List Node) (js : List Kind) (at k : ℕ) (ns' : List Node) (at' : ℕ) : Type 0 where
   pub all : Parts

@@ -148,10 +148,10 @@ unfolding kind_of
 token_kind k p t h = ap (kind_of k) h
 
 pub fault_clash : (e : Row) (o : Option Token) → ◌≡◌ {A = Result (Option Token) Row} (Err e) (Ok o) → ⊥
-fault_clash e o h = let z : ◌≡◌ {A = ℕ} 0 1 = cc in omega arith
+fault_clash e o h = cc
 
 pub none_clash : (t : Token) → ◌≡◌ {A = Result (Option Token) Row} (Ok None) (Ok (Some t)) → ⊥
-none_clash t h = let z : ◌≡◌ {A = ℕ} 0 1 = cc in omega arith
+none_clash t h = cc
 
 never_none : (p : ℕ) (why : ℕ) (o : Option Kind) → token_at p why o ≡ Ok None → ⊥
 never_none p why None h = fault_clash _ _ h

@@ -79,16 +79,16 @@ lists_inj (a ∷ cs) (b ∷ bs) h xs ys e =
 
 leaf_inj : (c : ℕ) → Inj (leaf c)
 leaf_inj c (leaf d) xs ys e = let z : c ≡ d = cc in (ap leaf z, cc)
-leaf_inj c (list s p) xs ys e = let z : ◌≡◌ {A = ℕ} 0 1 = cc in absurd (omega arith)
+leaf_inj c (list s p) xs ys e = absurd (cc)
 
 sign_inj : (s r : Sign) → sign_kind s ≡ sign_kind r → s ≡ r
 sign_inj sign.Meet sign.Meet e = refl
-sign_inj sign.Meet sign.Join e = let z : ◌≡◌ {A = ℕ} 0 1 = cc in absurd (omega arith)
-sign_inj sign.Join sign.Meet e = let z : ◌≡◌ {A = ℕ} 0 1 = cc in absurd (omega arith)
+sign_inj sign.Meet sign.Join e = absurd (cc)
+sign_inj sign.Join sign.Meet e = absurd (cc)
 sign_inj sign.Join sign.Join e = refl
 
 list_inj : (s : Sign) (p : Parts) → AllInj (members p) → Inj (list s p)
-list_inj s p h (leaf d) xs ys e = let z : ◌≡◌ {A = ℕ} 0 1 = cc in absurd (omega arith)
+list_inj s p h (leaf d) xs ys e = absurd (cc)
 list_inj s p h (list r q) xs ys e =
     let k : sign_kind s ≡ sign_kind r = cc in
     let t : (all_tokens p ++ Close ∷ []) ++ xs ≡ (all_tokens q ++ Close ∷ []) ++ ys = cc in

@@ -1,3 +1,2 @@
-#![tactic(auto)]
-
 // Refusals, by the numbers that users know them by.
+#![tactic(auto)]

@@ -17,8 +17,8 @@ both_there n a b h = go (ltb a n) (ltb b n) h
   where
     go : (x y : Bool) → and_then (tested x (refused 9 (a ∷ []))) (tested y (refused 9 (b ∷ []))) ≡ Ok tt → (x && y) ≡ true
     go true true e = refl
-    go true false e = let z : ◌≡◌ {A = ℕ} 0 1 = cc in absurd (omega arith)
-    go false y e = let z : ◌≡◌ {A = ℕ} 0 1 = cc in absurd (omega arith)
+    go true false e = absurd (cc)
+    go false y e = absurd (cc)
 
 -- what is not refused for its code or its parts fits
 pub judged_fits : (n : ℕ) (x : Node) → judged n x ≡ Ok tt → fits n x ≡ true
@@ -26,7 +26,7 @@ judged_fits n (Variable c) h = go (leb c 2625) h
   where
     go : (x : Bool) → tested x (refused 10 []) ≡ Ok tt → x ≡ true
     go true e = refl
-    go false e = let z : ◌≡◌ {A = ℕ} 0 1 = cc in absurd (omega arith)
+    go false e = absurd (cc)
 judged_fits n (Meet a b) h = both_there n a b h
 judged_fits n (Join a b) h = both_there n a b h
 

@@ -10,7 +10,7 @@ use Rattle.sheet.specs.Keep.{kept}
 
 no_answer : (o : Option Bool) → is_some o ≡ false → None ≡ o
 no_answer None h = refl
-no_answer (Some b) h = let z : ◌≡◌ {A = ℕ} 0 1 = cc in absurd (omega arith)
+no_answer (Some b) h = absurd (cc)
 
 -- no pair is lost where all settled pairs are of nodes that stay
 memo_kept : (n k : ℕ) (m : Memo) → Inside k m → k ≤ n → (λ i j. cond (ltb (max i j) n) (m i j) None) ≡ m

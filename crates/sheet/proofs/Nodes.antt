@@ -53,7 +53,7 @@ pub record Here (ns : List Node) (j k : ℕ) (n : Node) : Type 0 where
   pub node_is : node_at ns index ≡ n
 
 found_from : (ns : List Node) (j k : ℕ) (n : Node) → find_from j ns n ≡ Some k → Here ns j k n
-found_from [] j k n h = let z : ◌≡◌ {A = ℕ} 0 1 = cc in absurd (omega arith)
+found_from [] j k n h = absurd (cc)
 found_from (m ∷ ms) j k n h = go (same m n) refl h (found_from ms (j + 1) k n)
   where
     go : (x : Bool) → same m n ≡ x → cond x (Some j) (find_from (j + 1) ms n) ≡ Some k → (find_from (j + 1) ms n ≡ Some k → Here ms (j + 1) k n) → Here (m ∷ ms) j k n

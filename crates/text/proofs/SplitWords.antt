@@ -55,5 +55,5 @@ shorter_by b bs f r false e more h =
     omega (arith, ap length rest, length-drop (reach 32 (b ∷ bs)) (b ∷ bs))
 
 pub first_shorter : (l f r : List ℕ) → Some (f, r) ≡ first_word l → length r < length l
-first_shorter [] f r h = let z : ◌≡◌ {A = ℕ} 0 1 = cc in absurd (omega arith)
+first_shorter [] f r h = absurd (cc)
 first_shorter (b ∷ bs) f r h = shorter_by b bs f r (eqb b 32) refl (first_shorter bs f r) h

@@ -24,8 +24,8 @@ fn answer(heap: Global, desk: &mut Desk, line: &[u8]) -> Result<Option<Answer>, 
     }
 }
 
-// The answers of a whole script, which begins on a cleared desk, one to a line. It can only fail for want of memory.
-pub fn transcribe(heap: Global, script: &[u8]) -> anyhow::Result<String>
+// The answers of a whole script, which begins on a cleared desk, one to a line.
+pub fn transcribe(heap: Global, script: &[u8]) -> Result<String, AllocError>
     ensures { IfOk result (λ s. string_bytes s ≡ transcript cleared (lines_of script.now)) }
 {
     let mut desk = Desk::new(heap)?;

@@ -13,7 +13,7 @@ use crate::command::{Command, Line, parse};
 use crate::lines::split_line;
 use reader::read;
 use sheet::Sheet;
-use std::alloc::Global;
+use std::alloc::{AllocError, Global};
 
 // Makes the call that a command asks for.
 fn call(sheet: &mut Sheet, command: Command) -> Answer
@@ -41,8 +41,8 @@ fn answer(sheet: &mut Sheet, line: &[u8]) -> Option<Answer>
     }
 }
 
-// The answers of a whole script, which begins on a blank sheet, one to a line. It can only fail for want of memory.
-pub fn transcribe(heap: Global, script: &[u8]) -> anyhow::Result<String>
+// The answers of a whole script, which begins on a blank sheet, one to a line.
+pub fn transcribe(heap: Global, script: &[u8]) -> Result<String, AllocError>
     ensures { IfOk result (λ s. string_bytes s ≡ transcript blank (lines_of script.now)) }
 {
     let mut sheet = Sheet::blank(heap)?;

@@ -3,10 +3,10 @@ use Rattle.std.proofs.lemmas.List.{with_items_is}
 use Rattle.sheet.specs.View.{nodes_of}
 use Rattle.trying.specs.Refused.{row}
 use Rattle.trying.proofs.Numbers.{tried_answers}
-use Rattle.desk.specs.Grounds.{site, meaning}
+use Rattle.desk.specs.Sites.{site, meaning}
 use Rattle.desk.specs.Answers.{tried}
 use Rattle.desk.specs.Desks.{granted, tried_on}
-use Rattle.desk.specs.GroundsLemmas.{decides}
+use Rattle.desk.specs.SitesLemmas.{decides}
 use Rattle.desk.proofs.desk.tried.Goals as goal
 
 pub returns-in-Ok : goal.returns-in-Ok

@@ -1,5 +1,5 @@
 use Rattle.std.proofs.Common.{sym, ◌∙◌}
-use Rattle.desk.specs.GroundsLemmas.{admits_low, admits_none}
+use Rattle.desk.specs.SitesLemmas.{admits_low, admits_none}
 use Rattle.desk.proofs.chosen.ChosenLattice.admits.Goals as goal
 
 pub returns-then-from-x : goal.returns-then-from-x

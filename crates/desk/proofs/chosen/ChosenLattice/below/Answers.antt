@@ -1,6 +1,6 @@
 use Rattle.std.proofs.Common.{Decides}
 use Rattle.free_lattice.specs.Lattices.{Below}
-use Rattle.desk.specs.GroundsLemmas.{widened}
+use Rattle.desk.specs.SitesLemmas.{widened}
 use Rattle.desk.proofs.chosen.ChosenLattice.below.Goals as goal
 
 pub returns-in-Divisors : goal.returns-in-Divisors

@@ -1,5 +1,5 @@
 use Rattle.std.proofs.Common.{◌≡◌, ◌∙◌}
-use Rattle.desk.specs.GroundsLemmas.{widened}
+use Rattle.desk.specs.SitesLemmas.{widened}
 use Rattle.desk.proofs.chosen.ChosenLattice.join.Goals as goal
 
 pub returns-in-Divisors : goal.returns-in-Divisors

@@ -13,14 +13,14 @@ use Rattle.divisors.specs.Divisibility.{divisors_bounded, decides_divides}
 use Rattle.frames.specs.Framing.{bounded}
 use Rattle.desk.specs.declared.chosen.Chosen.{Chosen}
 use Rattle.desk.specs.declared.chosen.Chosen.TheVariants.{Sets, Divisors, Frame}
-use Rattle.desk.specs.Grounds.{site, meaning}
+use Rattle.desk.specs.Sites.{site, meaning}
 
 pub chosen_laws : (k : Chosen) → Laws (meaning k)
 chosen_laws Sets = sets_laws
 chosen_laws (Divisors d) = laws_of_bounded (divisors_bounded d.n d.positive)
 chosen_laws (Frame f) = laws_of_bounded (bounded f)
 
--- the test of a ground tells what it admits
+-- the test of a site tells what it admits
 pub decides : (k : Chosen) (x : ℕ) → Decides ((site k).admits x) ((meaning k).admitted x)
 decides Sets x = Decides-ltb x (2 ^ 64)
 decides (Divisors d) x = decides_divides x d.n d.positive
