@@ -2,18 +2,14 @@
 use Rattle.std.proofs.Common.{◌≡◌, ℕ, zero, suc, ◌+◌, ◌-◌, ◌/◌, ◌%◌, ◌^◌, ◌<◌, ◌≤◌, max, false, cond, eqb, ltb, ◌⊎◌, List, [], ◌∷◌, ◌++◌, length, get_or, take, is_some, Some, None, sym, refl, ap, ◌∙◌, ap₂, inl, inr, mod-lt, arith, pow_pos, pow_mono}
 use mathlib.Core.Path.{fun_ext}
 use native.Mathlib.Nat.{div-eq_of_lt}
-use lib.ListN
 use lib.ListN.{length-map}
 use lib.Pow.{field, mod-mod-pow}
-use Rattle.std.specs.Option.{option_map}
-use Rattle.std.specs.List.{slice_get}
 use Rattle.std.proofs.lemmas.List.{map-append, length-take, get_or-take, get_or-map, take-map, get_or_past}
 use Rattle.std.proofs.lemmas.Simd.{map-map}
 use Rattle.std.proofs.lemmas.Bool.{lt-ltb, le-ltb, cases_lt}
 use Rattle.sheet.specs.declared.node.Node.{Node}
 use Rattle.sheet.specs.declared.node.Node.TheVariants.{Variable}
 use Rattle.sheet.specs.declared.node.Record.{Record}
-use Rattle.sheet.specs.Nodes.{node_at}
 use Rattle.sheet.specs.Records.{Memo, fresh, within, shorter, nodes, bit, answers, memo, Inside}
 
 -- a record with no settled pair has the answers of no record
@@ -35,17 +31,6 @@ inside_more n k m h le i j l = h i j (omega arith)
 -- the nodes, one for each record
 pub nodes_length : (rs : List Record) → length (nodes rs) ≡ length rs
 nodes_length rs = length-map rs (λ (r : Record). r.node)
-
--- the node of a record by its number
-pub nth_nodes : (rs : List Record) (k : ℕ) → slice_get (nodes rs) k ≡ option_map (λ (r : Record). r.node) (slice_get rs k)
-nth_nodes [] k = refl
-nth_nodes (r ∷ rs) zero = refl
-nth_nodes (r ∷ rs) (suc k) = nth_nodes rs k
-
--- what is known of a record that is looked at
-pub looked : (rs items : List Record) (k : ℕ) → items ≡ rs → k < length items → (k < length (nodes rs)) × ((get_or items k (fresh (Variable 0))).node ≡ node_at (nodes rs) k)
-looked rs items k same lt =
-    (omega (arith, ap length same, nodes_length rs), ap (λ l. (get_or l k (fresh (Variable 0))).node) same ∙ sym (ListN.get_or-map (λ (r : Record). r.node) rs k (fresh (Variable 0))))
 
 -- the low bits of a word
 low_bit : (w n j : ℕ) → j < n → bit (w % 2 ^ n) j ≡ bit w j

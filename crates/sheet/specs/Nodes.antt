@@ -6,7 +6,8 @@
 --   Distinct ns    no two nodes are equal
 --   terms ns       the terms of the nodes, each made of those before it
 --   term_at ns k   the term of node k
-use Rattle.std.specs.Prelude.{◌≡◌, ℕ, ◌+◌, ◌<◌, Bool, true, false, cond, ◌&&◌, List, [], ◌∷◌, ◌++◌, length, Some, None, Option, ◌==◌, nat_le, nat_lt, slice_index_or}
+use Rattle.std.specs.Prelude.{◌≡◌, ℕ, ◌<◌, Bool, true, false, ◌&&◌, List, [], ◌∷◌, ◌++◌, length, Option, ◌==◌, nat_le, nat_lt, slice_index_or}
+use Rattle.std.specs.List.{position_from}
 use Rattle.free_lattice.specs.Terms.{Term, var, meet, join}
 use Rattle.sheet.specs.declared.node.Node.{Node}
 use Rattle.sheet.specs.declared.node.Node.TheVariants.{Variable, Meet, Join}
@@ -22,13 +23,9 @@ same (Join a b) (Variable d) = false
 same (Join a b) (Meet x y) = false
 same (Join a b) (Join x y) = a == x && b == y
 
--- the number of the first node that is n, counted from k
-abbrev pub find_from : ℕ → List Node → Node → Option ℕ
-find_from k [] n = None
-find_from k (m ∷ ms) n = cond (same m n) (Some k) (find_from (k + 1) ms n)
-
+-- the number of the first node that is n
 abbrev pub find : List Node → Node → Option ℕ
-find = find_from 0
+find ns n = position_from (λ m. same m n) 0 ns
 
 abbrev pub fits : ℕ → Node → Bool
 fits k (Variable c) = nat_le c 2625

@@ -2,19 +2,13 @@
 use reader::{Cause, Cutter, Fault, Kind, Layer, Token};
 use std::process::Abort;
 
-// What the cutter answers, with the place.
-#[derive(Clone, Copy)]
-enum Piece {
-    Good(Kind, usize),
-    Bad(Cause, usize),
-}
-
-use Piece::{Bad, Good};
+// What the cutter answers: the kind of a token, or why there is none, each with the place.
+type Piece = Result<(Kind, usize), (Cause, usize)>;
 
 fn answer(piece: Piece) -> Result<Option<Token>, Fault> {
     match piece {
-        Piece::Good(kind, place) => Ok(Some(Token { kind, place })),
-        Piece::Bad(cause, place) => Err(Fault {
+        Ok((kind, place)) => Ok(Some(Token { kind, place })),
+        Err((cause, place)) => Err(Fault {
             cause,
             place,
             layer: Layer::Cutter,
@@ -36,56 +30,56 @@ fn cuts(rt: &impl Abort, text: &[u8], pieces: &[Piece]) {
 static TEXTS: &[(&[u8], &[Piece])] = &[
     (b"", &[]),
     (b"   ", &[]),
-    (b"x", &[Good(Kind::Variable(2323), 0)]),
-    (b" z99 ", &[Good(Kind::Variable(2625), 1)]),
+    (b"x", &[Ok((Kind::Variable(2323), 0))]),
+    (b" z99 ", &[Ok((Kind::Variable(2625), 1))]),
     (
         b"(+)*",
         &[
-            Good(Kind::Open, 0),
-            Good(Kind::Plus, 1),
-            Good(Kind::Close, 2),
-            Good(Kind::Star, 3),
+            Ok((Kind::Open, 0)),
+            Ok((Kind::Plus, 1)),
+            Ok((Kind::Close, 2)),
+            Ok((Kind::Star, 3)),
         ],
     ),
     (
         b"a10b0c",
         &[
-            Good(Kind::Variable(11), 0),
-            Good(Kind::Variable(102), 3),
-            Good(Kind::Variable(202), 5),
+            Ok((Kind::Variable(11), 0)),
+            Ok((Kind::Variable(102), 3)),
+            Ok((Kind::Variable(202), 5)),
         ],
     ),
     (
         b" (x10 +x01*?)",
         &[
-            Good(Kind::Open, 1),
-            Good(Kind::Variable(2334), 2),
-            Good(Kind::Plus, 6),
-            Bad(Cause::BadNumber, 7),
-            Good(Kind::Star, 10),
-            Bad(Cause::NoToken, 11),
-            Good(Kind::Close, 12),
+            Ok((Kind::Open, 1)),
+            Ok((Kind::Variable(2334), 2)),
+            Ok((Kind::Plus, 6)),
+            Err((Cause::BadNumber, 7)),
+            Ok((Kind::Star, 10)),
+            Err((Cause::NoToken, 11)),
+            Ok((Kind::Close, 12)),
         ],
     ),
     (
         b"x1000 y",
-        &[Bad(Cause::BadNumber, 0), Good(Kind::Variable(2424), 6)],
+        &[Err((Cause::BadNumber, 0)), Ok((Kind::Variable(2424), 6))],
     ),
     (
         b"12x",
         &[
-            Bad(Cause::NoToken, 0),
-            Bad(Cause::NoToken, 1),
-            Good(Kind::Variable(2323), 2),
+            Err((Cause::NoToken, 0)),
+            Err((Cause::NoToken, 1)),
+            Ok((Kind::Variable(2323), 2)),
         ],
     ),
     (
         b"x 1",
-        &[Good(Kind::Variable(2323), 0), Bad(Cause::NoToken, 2)],
+        &[Ok((Kind::Variable(2323), 0)), Err((Cause::NoToken, 2))],
     ),
     (
         b"\xff \t",
-        &[Bad(Cause::NoToken, 0), Bad(Cause::NoToken, 2)],
+        &[Err((Cause::NoToken, 0)), Err((Cause::NoToken, 2))],
     ),
 ];
 

@@ -1,7 +1,6 @@
 // Trying: the slots of the nodes are filled bottom up from those of the variables, and two of them compared.
 // Slot k belongs to node k.
 ghost use Rattle.std.specs.Prelude.{◌≡◌, ◌<◌, ◌≤◌, length, MatchOption};
-ghost use Rattle.sheet.specs.Enter.{present};
 ghost use Rattle.sheet.specs.Nodes.{node_at};
 ghost use Rattle.sheet.specs.View.{nodes_of};
 ghost use Rattle.trying.specs.Refused.{told};
@@ -11,22 +10,12 @@ use crate::refusal::Refusal;
 use lattice::Lattice;
 use sheet::{Node, Sheet};
 
-fn present(sheet: &Sheet, k: usize) -> Result<(), Refusal>
-    ensures { told result ≡ present (length (nodes_of sheet.now)) k }
-{
-    if k < sheet.count() {
-        Ok(())
-    } else {
-        Err(Refusal::NoNode(k))
-    }
-}
-
 // Whether both nodes are there, and n slots reach up to the later one.
 fn check(sheet: &Sheet, u: usize, v: usize, n: usize) -> Result<(), Refusal>
     ensures { told result ≡ checked (nodes_of sheet.now) u v n }
 {
-    present(sheet, u)?;
-    present(sheet, v)?;
+    sheet.node(u).ok_or(Refusal::NoNode(u))?;
+    sheet.node(v).ok_or(Refusal::NoNode(v))?;
     if u.max(v) < n {
         Ok(())
     } else {
@@ -49,6 +38,7 @@ fn stray<L: Lattice>(lattice: &L, sheet: &Sheet, end: usize, slots: &[L::Element
     requires room { end ≤ length slots.now }
     ensures { MatchOption result (Ready (L.means lattice.now) (nodes_of sheet.now) end slots.now) (Stray (L.means lattice.now) (nodes_of sheet.now) end slots.now) }
 {
+    // No `find`: the proof does not reach what the lattice answered inside its closure.
     for k in 0..end {
         if let Node::Variable(_) = node_at(sheet, k) {
             if !lattice.admits(slots[k]) {
@@ -67,6 +57,7 @@ fn fill<L: Lattice>(lattice: &L, sheet: &Sheet, end: usize, slots: &mut [L::Elem
     ensures filled { Filled (L.means lattice.now) (nodes_of sheet.now) end slots.old slots.new }
     ensures admitted { Admitted (L.means lattice.now) end slots.new }
 {
+    // By index: slot k is written from others of the same slice.
     for k in 0..end {
         match node_at(sheet, k) {
             Node::Variable(_) => {}

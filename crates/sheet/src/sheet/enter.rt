@@ -45,12 +45,8 @@ impl Sheet {
         ensures { told result ≡ judged (count (state self.now)) node }
     {
         match node {
-            Node::Variable(code) => {
-                if code > LAST {
-                    return Err(Refusal::BadCode);
-                }
-                Ok(())
-            }
+            Node::Variable(code) if code > LAST => Err(Refusal::BadCode),
+            Node::Variable(_) => Ok(()),
             Node::Meet(a, b) | Node::Join(a, b) => {
                 self.present(a)?;
                 self.present(b)
@@ -62,23 +58,14 @@ impl Sheet {
     pub fn node(&self, k: usize) -> Option<Node>
         ensures { result ≡ slice_get (state self.now).nodes k }
     {
-        if k < self.count() {
-            Some(self.records[k].node())
-        } else {
-            None
-        }
+        self.records.get(k).map(Record::node)
     }
 
     // The number of a node that is there.
     pub fn find(&self, node: Node) -> Option<usize>
         ensures { result ≡ find (state self.now).nodes node }
     {
-        for (k, record) in self.records.iter().enumerate() {
-            if record.node() == node {
-                return Some(k);
-            }
-        }
-        None
+        self.records.iter().position(|record| record.node() == node)
     }
 
     // The number of a node: as it was, where it is there, and else the next one.
