@@ -54,7 +54,7 @@ fn text(behind: &[u8]) -> &[u8]
 fn alone<'a>(command: Command<'a>, words: &[u8]) -> Option<Command<'a>>
     ensures { option_map called result ≡ alone (called command.entry) (words_of words.now) }
 {
-    if no_words(words) { Some(command) } else { None }
+    no_words(words).then_some(command)
 }
 
 // The command of a verb, with what stands behind it.
