@@ -1,1 +1,2 @@
+pub mod AllVerbs
 pub mod Filling

@@ -1,10 +1,10 @@
 -- What a line of a script asks for.
 --   Call           a command with what it needs, texts as bytes and words
---   Meaning        what a line means: nothing, a call, a command in no form of its own, or no command that there is
+--   Meaning        what a line means: nothing, a call, or a mistake
 --   called c       the call that a command is
 --   call_of v bs   the call of the verb v with the bytes bs behind it
---   asked l        the meaning of the line l
-use Rattle.std.specs.Prelude.{ℕ, cond, List, [], ◌∷◌, drop, Some, None, codes, Option, ◌==◌}
+--   asked vs l     the meaning of the line l in a program whose verbs are vs
+use Rattle.std.specs.Prelude.{ℕ, cond, List, [], ◌∷◌, drop, Some, None, Ok, Err, codes, Option, Result, ok_or, ◌==◌}
 use Rattle.std.specs.Option.{option_map}
 use Rattle.std.specs.Str.{bytes_eq}
 use Rattle.sheet.specs.declared.node.Node.{Node}
@@ -14,8 +14,8 @@ use Rattle.command.specs.declared.verb.Verb.{Verb}
 use Rattle.command.specs.declared.verb.Verb.TheVariants as verb
 use Rattle.command.specs.declared.command.Command.{Command}
 use Rattle.command.specs.declared.command.Command.TheVariants as command
-use Rattle.command.specs.declared.command.Line.{Line}
-use Rattle.command.specs.declared.command.Line.TheVariants as line
+use Rattle.command.specs.declared.mistake.Mistake.{Mistake}
+use Rattle.command.specs.declared.mistake.Mistake.TheVariants.{Misused, Unknown}
 use Rattle.command.specs.Verbs.{verb_of}
 use Rattle.command.specs.Trials.{Asked, trial_asked, trial_of}
 
@@ -28,11 +28,8 @@ pub data Call : Type 0 where
   closes : Call
   tries : Asked → Call
 
-pub data Meaning : Type 0 where
-  silent : Meaning
-  calls : Call → Meaning
-  misuses : Verb → Meaning
-  nothing : Meaning
+abbrev pub Meaning : Type 0
+Meaning = Result (Option Call) Mistake
 
 abbrev pub called : Command → Call
 called (command.Enter n) = enters n
@@ -43,11 +40,14 @@ called (command.Line a b) = relates a b
 called command.Close = closes
 called (command.Try t) = tries (trial_asked t)
 
-abbrev pub meant : Line → Meaning
-meant line.Silent = silent
-meant (line.Call c) = calls (called c)
-meant (line.Misused v) = misuses v
-meant line.Unknown = nothing
+-- the call of a command, or the mistake
+abbrev pub heard : Result Command Mistake → Result Call Mistake
+heard (Ok c) = Ok (called c)
+heard (Err m) = Err m
+
+abbrev pub meant : Result (Option Command) Mistake → Meaning
+meant (Ok c) = Ok (option_map called c)
+meant (Err m) = Err m
 
 abbrev pub pair_of : (ℕ → ℕ → Node) → Option (ℕ × ℕ) → Option Node
 pair_of kind = option_map (λ p. kind p.0 p.1)
@@ -74,22 +74,23 @@ call_of verb.Line behind = option_map (λ p. relates p.0 p.1) (two_numbers (word
 call_of verb.Close behind = alone closes (words_of behind)
 call_of verb.Try behind = option_map tries (trial_of (words_of behind))
 
-abbrev pub calling : Verb → Option Call → Meaning
-calling v None = misuses v
-calling v (Some c) = calls c
+abbrev pub said_by : Option Verb → List ℕ → Result Call Mistake
+said_by None behind = Err Unknown
+said_by (Some v) behind = ok_or (call_of v behind) (Misused v)
 
-abbrev pub said_by : Option Verb → List ℕ → Meaning
-said_by None behind = nothing
-said_by (Some v) behind = calling v (call_of v behind)
+abbrev pub said : List Verb → Option (List ℕ × List ℕ) → Result Call Mistake
+said vs None = Err Unknown
+said vs (Some p) = said_by (verb_of vs p.0) p.1
 
-abbrev pub said : Option (List ℕ × List ℕ) → Meaning
-said None = nothing
-said (Some p) = said_by (verb_of p.0) p.1
+abbrev pub spoken : List Verb → List ℕ → Result Call Mistake
+spoken vs l = said vs (first_word l)
 
-abbrev pub spoken : List ℕ → Meaning
-spoken l = said (first_word l)
+-- a line that says something
+abbrev pub saying : Result Call Mistake → Meaning
+saying (Ok c) = Ok (Some c)
+saying (Err m) = Err m
 
 -- an empty line and a comment ask for nothing
-abbrev pub asked : List ℕ → Meaning
-asked [] = silent
-asked (b ∷ bs) = cond (b == 35) silent (spoken (b ∷ bs))
+abbrev pub asked : List Verb → List ℕ → Meaning
+asked vs [] = Ok None
+asked vs (b ∷ bs) = cond (b == 35) (Ok None) (saying (spoken vs (b ∷ bs)))

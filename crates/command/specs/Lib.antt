@@ -1,4 +1,5 @@
 pub mod Verbs
+pub mod Mistakes
 pub mod Trials
 pub mod Slots
 pub mod Commands

@@ -1,20 +1,28 @@
 -- The first words of the commands, and the forms of the commands.
-use Rattle.std.specs.Prelude.{ℕ, cond, List, Some, None, codes, Option}
+use Rattle.std.specs.Prelude.{ℕ, List, [], ◌∷◌, codes, Option, find}
 use Rattle.std.specs.Str.{bytes_eq}
 use Rattle.command.specs.declared.verb.Verb.{Verb}
 use Rattle.command.specs.declared.verb.Verb.TheVariants.{Enter, Read, Blank, Draft, Line, Close, Try}
 
-abbrev pub verb_of : List ℕ → Option Verb
-verb_of w =
-    cond (bytes_eq w (codes "enter")) (Some Enter)
-    (cond (bytes_eq w (codes "read")) (Some Read)
-    (cond (bytes_eq w (codes "blank")) (Some Blank)
-    (cond (bytes_eq w (codes "draft")) (Some Draft)
-    (cond (bytes_eq w (codes "line")) (Some Line)
-    (cond (bytes_eq w (codes "close")) (Some Close)
-    (cond (bytes_eq w (codes "try")) (Some Try)
-    None))))))
+-- the first word of the command
+abbrev pub word : Verb → List ℕ
+word Enter = codes "enter"
+word Read = codes "read"
+word Blank = codes "blank"
+word Draft = codes "draft"
+word Line = codes "line"
+word Close = codes "close"
+word Try = codes "try"
 
+-- every verb
+abbrev pub all : List Verb
+all = Enter ∷ Read ∷ Blank ∷ Draft ∷ Line ∷ Close ∷ Try ∷ []
+
+-- the first of the verbs vs whose word w is
+abbrev pub verb_of : List Verb → List ℕ → Option Verb
+verb_of vs w = find (λ v. bytes_eq w (word v)) vs
+
+-- the form of the command
 abbrev pub form : Verb → List ℕ
 form Enter = codes "enter CODE | enter meet A B | enter join A B"
 form Read = codes "read TEXT"

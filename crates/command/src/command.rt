@@ -2,12 +2,13 @@
 ghost use Rattle.std.specs.Prelude.{◌≡◌, drop};
 ghost use Rattle.std.specs.Option.{option_map};
 ghost use Rattle.text.specs.Words.{words_of};
-ghost use Rattle.command.specs.Commands.{node_of, blanks, closes, alone, call_of, spoken, asked, called, meant};
+ghost use Rattle.command.specs.Commands.{node_of, blanks, closes, alone, call_of, spoken, asked, called, heard, meant};
 
+use crate::mistake::Mistake;
 use crate::trial::{Trial, trial_of};
 use crate::verb::{Verb, verb_of};
 use sheet::Node;
-use text::{is, no_words, one_number, split_word, two_numbers};
+use text::{no_words, one_number, split_word, two_numbers};
 
 #[derive(Clone, Copy)]
 pub enum Command<'a> {
@@ -21,28 +22,21 @@ pub enum Command<'a> {
     Try(Trial<'a>),
 }
 
-// What a line asks for: nothing, a command, a command in no form of its own, or no command that there is.
-#[derive(Clone, Copy)]
-pub enum Line<'a> {
-    Silent,
-    Call(Command<'a>),
-    Misused(Verb),
-    Unknown,
-}
-
 // The node that the words of `enter` name: CODE, meet A B or join A B.
 fn node(words: &[u8]) -> Option<Node>
     ensures { result ≡ node_of (words_of words.now) }
 {
     let (first, rest) = split_word(words)?;
-    if is(first, "meet") {
-        let (a, b) = two_numbers(rest)?;
-        Some(Node::Meet(a as usize, b as usize))
-    } else if is(first, "join") {
-        let (a, b) = two_numbers(rest)?;
-        Some(Node::Join(a as usize, b as usize))
-    } else {
-        Some(Node::Variable(one_number(words)?))
+    match first {
+        b"meet" => {
+            let (a, b) = two_numbers(rest)?;
+            Some(Node::Meet(a as usize, b as usize))
+        }
+        b"join" => {
+            let (a, b) = two_numbers(rest)?;
+            Some(Node::Join(a as usize, b as usize))
+        }
+        _ => Some(Node::Variable(one_number(words)?)),
     }
 }
 
@@ -60,7 +54,7 @@ fn text(behind: &[u8]) -> &[u8]
 fn alone<'a>(command: Command<'a>, words: &[u8]) -> Option<Command<'a>>
     ensures { option_map called result ≡ alone (called command.entry) (words_of words.now) }
 {
-    if no_words(words) { Some(command) } else { None }
+    no_words(words).then_some(command)
 }
 
 // The command of a verb, with what stands behind it.
@@ -81,28 +75,22 @@ fn command_of(verb: Verb, behind: &[u8]) -> Option<Command<'_>>
     }
 }
 
-// A line that is neither empty nor a comment.
-fn speak(line: &[u8]) -> Line<'_>
-    ensures { meant result ≡ spoken line.now }
+// The command of a line that is neither empty nor a comment.
+fn speak<'a>(verbs: &[Verb], line: &'a [u8]) -> Result<Command<'a>, Mistake>
+    ensures { heard result ≡ spoken verbs.now line.now }
 {
-    let Some((word, behind)) = split_word(line) else {
-        return Line::Unknown;
-    };
-    let Some(verb) = verb_of(word) else {
-        return Line::Unknown;
-    };
-    match command_of(verb, behind) {
-        Some(command) => Line::Call(command),
-        None => Line::Misused(verb),
-    }
+    let (word, behind) = split_word(line).ok_or(Mistake::Unknown)?;
+    let verb = verb_of(verbs, word).ok_or(Mistake::Unknown)?;
+    command_of(verb, behind).ok_or(Mistake::Misused(verb))
 }
 
-// What a line asks for. A comment's first byte is #.
-pub fn parse(line: &[u8]) -> Line<'_>
-    ensures { meant result ≡ asked line.now }
+// What a line asks for, in a program that has these verbs: nothing, if it is empty or a comment. A comment's first
+// byte is #.
+pub fn parse<'a>(verbs: &[Verb], line: &'a [u8]) -> Result<Option<Command<'a>>, Mistake>
+    ensures { meant result ≡ asked verbs.now line.now }
 {
     match line {
-        [] | [b'#', ..] => Line::Silent,
-        _ => speak(line),
+        [] | [b'#', ..] => Ok(None),
+        _ => Ok(Some(speak(verbs, line)?)),
     }
 }

@@ -8,7 +8,7 @@ ghost use Rattle.command.specs.Slots.{worth, assignment, assigned, listed, named
 use reader::variable;
 use sheet::{Node, Sheet};
 use std::alloc::{AllocError, Global};
-use text::{is, number, split_word, until};
+use text::{number, split_word, until};
 
 // The number behind the =.
 fn worth(behind: &[u8]) -> Option<u64>
@@ -39,7 +39,7 @@ fn assign(sheet: &Sheet, slots: &mut [u64], word: &[u8]) -> Option<()>
     Some(())
 }
 
-// Slot k becomes x, if there is one.
+// Slot k becomes x, if there is one. By index: of a write through a slice's get_mut no proof knows the elements.
 fn put(slots: &mut [u64], k: usize, x: u64)
     ensures { slots.new ≡ slice_set slots.old k x }
 {
@@ -68,11 +68,7 @@ fn listed(heap: Global, words: &[u8]) -> Result<Option<Vec<u64>>, AllocError>
 fn up_to(sheet: &Sheet, m: usize) -> usize
     ensures { result ≡ up_to (nodes_of sheet.now) m }
 {
-    if m < sheet.count() {
-        m + 1
-    } else {
-        sheet.count()
-    }
+    sheet.count().min(m.saturating_add(1))
 }
 
 // A slot for each node up to m: the number that the words give its variable, or else 0.
@@ -104,12 +100,9 @@ pub fn slots_of(
 ) -> Result<Option<Vec<u64>>, AllocError>
     ensures { IfOk result (λ o. option_map vec_items o ≡ slots_of (nodes_of sheet.now) m (words_of words.now)) }
 {
-    let Some((first, rest)) = split_word(words) else {
-        return Ok(Some(Vec::new(heap)));
-    };
-    if is(first, "with") {
-        named(heap, sheet, m, rest)
-    } else {
-        listed(heap, words)
+    match split_word(words) {
+        None => Ok(Some(Vec::new(heap))),
+        Some((b"with", rest)) => named(heap, sheet, m, rest),
+        Some(_) => listed(heap, words),
     }
 }

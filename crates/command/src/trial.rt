@@ -2,12 +2,12 @@
 ghost use Rattle.std.specs.Prelude.{◌≡◌};
 ghost use Rattle.std.specs.Option.{option_map};
 ghost use Rattle.text.specs.Words.{words_of};
-ghost use Rattle.command.specs.Trials.{site_of, sited, trial_of, trial_asked};
+ghost use Rattle.command.specs.Trials.{numbered_site, site_of, sited, trial_of, trial_asked};
 
-use text::{is, number, split_word};
+use text::{number, split_word};
 
 // The lattice that the trial is made in: sets, the divisors of a number, or the frame that was closed last.
-#[derive(Clone, Copy)]
+#[derive(Clone, Copy, PartialEq, Eq, Debug)]
 pub enum Site {
     Sets,
     Divisors(u32),
@@ -23,20 +23,24 @@ pub struct Trial<'a> {
     pub slots: &'a [u8],
 }
 
+// The divisors of the number that stands first, and what stands behind it.
+fn numbered_site(words: &[u8]) -> Option<(Site, &[u8])>
+    ensures { option_map sited result ≡ numbered_site (words_of words.now) }
+{
+    let (d, rest) = split_word(words)?;
+    Some((Site::Divisors(u32::try_from(number(d)?).ok()?), rest))
+}
+
 // The site, and what stands behind it: sets, divisors D or frame.
 fn site_of(words: &[u8]) -> Option<(Site, &[u8])>
     ensures { option_map sited result ≡ site_of (words_of words.now) }
 {
     let (first, rest) = split_word(words)?;
-    if is(first, "sets") {
-        Some((Site::Sets, rest))
-    } else if is(first, "divisors") {
-        let (d, rest) = split_word(rest)?;
-        Some((Site::Divisors(u32::try_from(number(d)?).ok()?), rest))
-    } else if is(first, "frame") {
-        Some((Site::Frame, rest))
-    } else {
-        None
+    match first {
+        b"sets" => Some((Site::Sets, rest)),
+        b"divisors" => numbered_site(rest),
+        b"frame" => Some((Site::Frame, rest)),
+        _ => None,
     }
 }
 

@@ -1,11 +1,11 @@
 // The first words of the commands, and the forms of the commands.
 ghost use Rattle.std.specs.Prelude.{◌≡◌, Some};
-ghost use Rattle.command.specs.Verbs.{verb_of, form};
+ghost use Rattle.command.specs.Verbs.{word, verb_of, form};
 
 use std::fmt;
 use text::is;
 
-#[derive(Clone, Copy)]
+#[derive(Clone, Copy, PartialEq, Eq, Debug)]
 pub enum Verb {
     Enter,
     Read,
@@ -16,26 +16,38 @@ pub enum Verb {
     Try,
 }
 
-pub(crate) fn verb_of(word: &[u8]) -> Option<Verb>
-    ensures { result ≡ verb_of word.now }
-{
-    if is(word, "enter") {
-        Some(Verb::Enter)
-    } else if is(word, "read") {
-        Some(Verb::Read)
-    } else if is(word, "blank") {
-        Some(Verb::Blank)
-    } else if is(word, "draft") {
-        Some(Verb::Draft)
-    } else if is(word, "line") {
-        Some(Verb::Line)
-    } else if is(word, "close") {
-        Some(Verb::Close)
-    } else if is(word, "try") {
-        Some(Verb::Try)
-    } else {
-        None
+impl Verb {
+    pub const ALL: [Verb; 7] = [
+        Verb::Enter,
+        Verb::Read,
+        Verb::Blank,
+        Verb::Draft,
+        Verb::Line,
+        Verb::Close,
+        Verb::Try,
+    ];
+
+    // The first word of the command.
+    pub fn word(self) -> &'static str
+        ensures { result.now ≡ word self }
+    {
+        match self {
+            Verb::Enter => "enter",
+            Verb::Read => "read",
+            Verb::Blank => "blank",
+            Verb::Draft => "draft",
+            Verb::Line => "line",
+            Verb::Close => "close",
+            Verb::Try => "try",
+        }
     }
+}
+
+// The first of the verbs with this word.
+pub(crate) fn verb_of(verbs: &[Verb], word: &[u8]) -> Option<Verb>
+    ensures { result ≡ verb_of verbs.now word.now }
+{
+    verbs.iter().copied().find(|verb| is(word, verb.word()))
 }
 
 // The form of the command.
