@@ -1,8 +1,10 @@
 -- The replies to the commands of a script, and the text of each.
 --   Reply          what a line is answered, refusals by number
---   replied a      the reply that an answer is
+--   answered a     the reply that an answer is
+--   erred e        the reply that an error is
+--   replied r      the reply that an answer or an error is
 --   reply_text r   its text
-use Rattle.std.specs.Prelude.{ℕ, Bool, true, false, List, [], ◌∷◌, ◌++◌, vec_items, codes, decimal}
+use Rattle.std.specs.Prelude.{ℕ, Bool, true, false, List, [], ◌∷◌, ◌++◌, vec_items, Ok, Err, codes, decimal, Result}
 use Rattle.refused.specs.Refused.{Refused, text as refused_text}
 use Rattle.sheet.specs.Refused.{row as row_of_sheet}
 use Rattle.divisors.specs.Refused.{row as row_of_divisors}
@@ -11,10 +13,10 @@ use Rattle.trying.specs.Refused.{row as row_of_trying}
 use Rattle.reader.specs.Faults.{Row, text as fault_text, row as row_of_fault}
 use Rattle.command.specs.declared.verb.Verb.{Verb}
 use Rattle.command.specs.Verbs.{form}
-use Rattle.desk.specs.declared.answer.Refusal.{Refusal}
-use Rattle.desk.specs.declared.answer.Refusal.TheVariants as refusal
 use Rattle.desk.specs.declared.answer.Answer.{Answer}
 use Rattle.desk.specs.declared.answer.Answer.TheVariants as answer
+use Rattle.desk.specs.declared.answer.Error.{Error}
+use Rattle.desk.specs.declared.answer.Error.TheVariants as error
 
 pub data Reply : Type 0 where
   node : ℕ → Reply
@@ -30,25 +32,28 @@ pub data Reply : Type 0 where
   misused : Verb → Reply
   unknown : Reply
 
-abbrev pub row : Refusal → Refused
-row (refusal.Sheet r) = row_of_sheet r
-row (refusal.Divisors r) = row_of_divisors r
-row (refusal.Frames r) = row_of_frames r
-row (refusal.Trying r) = row_of_trying r
+abbrev pub answered : Answer → Reply
+answered (answer.Node k) = node k
+answered answer.Blank = blanked
+answered (answer.Draft n) = drafted n
+answered (answer.Line a b) = related a b
+answered (answer.Frame n) = framed n
+answered (answer.Tried t) = tried t.holds (vec_items t.slots)
 
-abbrev pub replied : Answer → Reply
-replied (answer.Node k) = node k
-replied answer.Blank = blanked
-replied (answer.Draft n) = drafted n
-replied (answer.Line a b) = related a b
-replied (answer.Frame n) = framed n
-replied (answer.Tried t) = tried t.holds (vec_items t.slots)
-replied (answer.Refused r) = refuses (row r)
-replied (answer.Faulted f) = faulted (row_of_fault f)
-replied answer.NoDraft = no_draft
-replied answer.NoFrame = no_frame
-replied (answer.Misused v) = misused v
-replied answer.Unknown = unknown
+abbrev pub erred : Error → Reply
+erred (error.Sheet r) = refuses (row_of_sheet r)
+erred (error.Divisors r) = refuses (row_of_divisors r)
+erred (error.Frames r) = refuses (row_of_frames r)
+erred (error.Trying r) = refuses (row_of_trying r)
+erred (error.Fault f) = faulted (row_of_fault f)
+erred error.NoDraft = no_draft
+erred error.NoFrame = no_frame
+erred (error.Misused v) = misused v
+erred error.Unknown = unknown
+
+abbrev pub replied : Result Answer Error → Reply
+replied (Ok a) = answered a
+replied (Err e) = erred e
 
 -- whether an inequality holds
 abbrev pub held_text : Bool → List ℕ

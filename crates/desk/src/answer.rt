@@ -1,20 +1,11 @@
-// What a line of a script is answered, and the text that says it.
-ghost use Rattle.std.specs.Prelude.{Some};
-ghost use Rattle.refused.specs.Refused.{text};
-ghost use Rattle.desk.specs.Answers.{row, replied, tried_text, reply_text};
+// What a line of a script is answered, or why it is answered nothing, and the texts that say so.
+ghost use Rattle.std.specs.Prelude.{◌≡◌, Some};
+ghost use Rattle.desk.specs.declared.answer.Error.TheVariants as error;
+ghost use Rattle.desk.specs.Answers.{answered, erred, tried_text, reply_text};
 
 use command::Verb;
 use reader::Fault;
 use std::fmt;
-
-// A refusal of any call but `read`.
-#[derive(Clone, Copy)]
-pub enum Refusal {
-    Sheet(sheet::Refusal),
-    Divisors(divisors::Refusal),
-    Frames(frames::Refusal),
-    Trying(trying::Refusal),
-}
 
 // Whether the inequality holds, and the slots that the trial left.
 #[derive(Drop)]
@@ -23,6 +14,7 @@ pub struct Tried {
     pub slots: Vec<u64>,
 }
 
+// What was granted.
 #[derive(Drop)]
 pub enum Answer {
     Node(usize),
@@ -31,24 +23,59 @@ pub enum Answer {
     Line(u64, u64),
     Frame(u8),
     Tried(Tried),
-    Refused(Refusal),
-    Faulted(Fault),
+}
+
+// Why nothing was.
+#[derive(Clone, Copy)]
+pub enum Error {
+    Sheet(sheet::Refusal),
+    Divisors(divisors::Refusal),
+    Frames(frames::Refusal),
+    Trying(trying::Refusal),
+    Fault(Fault),
     NoDraft,
     NoFrame,
     Misused(Verb),
     Unknown,
 }
 
-impl fmt::Display for Refusal {
-    ghost output = { λ r. Some (text (row r)) };
+impl From<sheet::Refusal> for Error {
+    ghost from_gives = { λ r e. e ≡ error.Sheet r };
 
-    fn fmt<W: fmt::Write>(&self, f: &mut fmt::Formatter<W>) -> fmt::Result {
-        match self {
-            Refusal::Sheet(refusal) => write!(f, "{refusal}"),
-            Refusal::Divisors(refusal) => write!(f, "{refusal}"),
-            Refusal::Frames(refusal) => write!(f, "{refusal}"),
-            Refusal::Trying(refusal) => write!(f, "{refusal}"),
-        }
+    fn from(refusal: sheet::Refusal) -> Error {
+        Error::Sheet(refusal)
+    }
+}
+
+impl From<divisors::Refusal> for Error {
+    ghost from_gives = { λ r e. e ≡ error.Divisors r };
+
+    fn from(refusal: divisors::Refusal) -> Error {
+        Error::Divisors(refusal)
+    }
+}
+
+impl From<frames::Refusal> for Error {
+    ghost from_gives = { λ r e. e ≡ error.Frames r };
+
+    fn from(refusal: frames::Refusal) -> Error {
+        Error::Frames(refusal)
+    }
+}
+
+impl From<trying::Refusal> for Error {
+    ghost from_gives = { λ r e. e ≡ error.Trying r };
+
+    fn from(refusal: trying::Refusal) -> Error {
+        Error::Trying(refusal)
+    }
+}
+
+impl From<Fault> for Error {
+    ghost from_gives = { λ r e. e ≡ error.Fault r };
+
+    fn from(fault: Fault) -> Error {
+        Error::Fault(fault)
     }
 }
 
@@ -69,7 +96,7 @@ impl fmt::Display for Tried {
 }
 
 impl fmt::Display for Answer {
-    ghost output = { λ a. Some (reply_text (replied a)) };
+    ghost output = { λ a. Some (reply_text (answered a)) };
 
     fn fmt<W: fmt::Write>(&self, f: &mut fmt::Formatter<W>) -> fmt::Result {
         match self {
@@ -79,12 +106,24 @@ impl fmt::Display for Answer {
             Answer::Line(a, b) => write!(f, "line {a} {b}"),
             Answer::Frame(n) => write!(f, "frame {n}"),
             Answer::Tried(tried) => write!(f, "{tried}"),
-            Answer::Refused(refusal) => write!(f, "refused {refusal}"),
-            Answer::Faulted(fault) => write!(f, "refused {fault}"),
-            Answer::NoDraft => f.write_str("no draft"),
-            Answer::NoFrame => f.write_str("no frame"),
-            Answer::Misused(verb) => write!(f, "usage: {verb}"),
-            Answer::Unknown => f.write_str("unknown command"),
+        }
+    }
+}
+
+impl fmt::Display for Error {
+    ghost output = { λ e. Some (reply_text (erred e)) };
+
+    fn fmt<W: fmt::Write>(&self, f: &mut fmt::Formatter<W>) -> fmt::Result {
+        match self {
+            Error::Sheet(refusal) => write!(f, "refused {refusal}"),
+            Error::Divisors(refusal) => write!(f, "refused {refusal}"),
+            Error::Frames(refusal) => write!(f, "refused {refusal}"),
+            Error::Trying(refusal) => write!(f, "refused {refusal}"),
+            Error::Fault(fault) => write!(f, "refused {fault}"),
+            Error::NoDraft => f.write_str("no draft"),
+            Error::NoFrame => f.write_str("no frame"),
+            Error::Misused(verb) => write!(f, "usage: {verb}"),
+            Error::Unknown => f.write_str("unknown command"),
         }
     }
 }

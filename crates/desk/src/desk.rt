@@ -8,7 +8,7 @@ ghost use Rattle.desk.specs.Answers.{replied};
 ghost use Rattle.desk.specs.Desks.{cleared, entering, reading, drafting, relating, closing, tried_on, on_site, trying, step};
 ghost use Rattle.desk.specs.View.{desk_of};
 
-use crate::answer::{Answer, Refusal, Tried};
+use crate::answer::{Answer, Error, Tried};
 use crate::chosen::Chosen;
 use command::{Command, Site, Trial, Verb, slots_of};
 use divisors::Divisors;
@@ -27,13 +27,17 @@ pub struct Desk {
 }
 
 // Tries u and v in the lattice that was chosen.
-fn tried(lattice: &Chosen, sheet: &Sheet, u: usize, v: usize, mut slots: Vec<u64>) -> Answer
+fn tried(
+    lattice: &Chosen,
+    sheet: &Sheet,
+    u: usize,
+    v: usize,
+    mut slots: Vec<u64>,
+) -> Result<Answer, Error>
     ensures { replied result ≡ tried_on (nodes_of sheet.now) u v slots.items (site lattice.now) }
 {
-    match try_in(lattice, sheet, u, v, &mut slots) {
-        Ok(holds) => Answer::Tried(Tried { holds, slots }),
-        Err(refusal) => Answer::Refused(Refusal::Trying(refusal)),
-    }
+    let holds = try_in(lattice, sheet, u, v, &mut slots)?;
+    Ok(Answer::Tried(Tried { holds, slots }))
 }
 
 impl Desk {
@@ -47,112 +51,98 @@ impl Desk {
         })
     }
 
-    fn enter(&mut self, node: Node) -> Answer
+    fn enter(&mut self, node: Node) -> Result<Answer, Error>
         ensures { (desk_of self.new, replied result) ≡ entering (desk_of self.old) node }
     {
-        match self.sheet.enter(node) {
-            Ok(k) => Answer::Node(k),
-            Err(refusal) => Answer::Refused(Refusal::Sheet(refusal)),
-        }
+        Ok(Answer::Node(self.sheet.enter(node)?))
     }
 
-    fn read(&mut self, text: &[u8]) -> Answer
+    fn read(&mut self, text: &[u8]) -> Result<Answer, Error>
         ensures { (desk_of self.new, replied result) ≡ reading (desk_of self.old) text.now }
     {
-        match read(&mut self.sheet, text) {
-            Ok(k) => Answer::Node(k),
-            Err(fault) => Answer::Faulted(fault),
-        }
+        Ok(Answer::Node(read(&mut self.sheet, text)?))
     }
 
-    fn draft(&mut self, n: u64) -> Answer
+    fn draft(&mut self, n: u64) -> Result<Answer, Error>
         ensures { (desk_of self.new, replied result) ≡ drafting (desk_of self.old) n }
     {
-        match Draft::begin(n) {
-            Ok(draft) => {
-                self.draft = Some(draft);
-                Answer::Draft(n)
-            }
-            Err(refusal) => Answer::Refused(Refusal::Frames(refusal)),
-        }
+        self.draft = Some(Draft::begin(n)?);
+        Ok(Answer::Draft(n))
     }
 
-    fn line(&mut self, a: u64, b: u64) -> Answer
+    fn line(&mut self, a: u64, b: u64) -> Result<Answer, Error>
         ensures { (desk_of self.new, replied result) ≡ relating (desk_of self.old) a b }
     {
-        let Some(mut draft) = self.draft.take() else {
-            return Answer::NoDraft;
-        };
-        let answer = draft.line(a, b);
-        self.draft = Some(draft);
-        match answer {
-            Ok(()) => Answer::Line(a, b),
-            Err(refusal) => Answer::Refused(Refusal::Frames(refusal)),
-        }
+        let draft = self.draft.as_mut().ok_or(Error::NoDraft)?;
+        draft.line(a, b)?;
+        Ok(Answer::Line(a, b))
     }
 
     // A draft that closes becomes the frame, and one that does not stays.
-    fn close(&mut self) -> Answer
+    fn close(&mut self) -> Result<Answer, Error>
         ensures { (desk_of self.new, replied result) ≡ closing (desk_of self.old) }
     {
-        let Some(draft) = self.draft.take() else {
-            return Answer::NoDraft;
-        };
+        let draft = self.draft.take().ok_or(Error::NoDraft)?;
         match draft.close() {
             Ok(frame) => {
-                let size = frame.size();
                 self.frame = Some(frame);
-                Answer::Frame(size)
+                Ok(Answer::Frame(frame.size()))
             }
-            Err(back) => {
-                let (draft, refusal) = back;
+            Err((draft, refusal)) => {
                 self.draft = Some(draft);
-                Answer::Refused(Refusal::Frames(refusal))
+                Err(Error::Frames(refusal))
             }
         }
     }
 
     // Tries u and v on the site that was named, if there is one.
-    fn on_site(&self, site: Site, u: usize, v: usize, slots: Vec<u64>) -> Answer
+    fn on_site(&self, site: Site, u: usize, v: usize, slots: Vec<u64>) -> Result<Answer, Error>
         ensures { replied result ≡ on_site (desk_of self.now) (tried_on (nodes_of self.now.sheet) u v slots.items) site }
     {
         match site {
             Site::Sets => tried(&Chosen::Sets, &self.sheet, u, v, slots),
-            Site::Divisors(n) => match Divisors::of(n) {
-                Ok(divisors) => tried(&Chosen::Divisors(divisors), &self.sheet, u, v, slots),
-                Err(refusal) => Answer::Refused(Refusal::Divisors(refusal)),
-            },
-            Site::Frame => match self.frame {
-                Some(frame) => tried(&Chosen::Frame(frame), &self.sheet, u, v, slots),
-                None => Answer::NoFrame,
-            },
+            Site::Divisors(n) => tried(
+                &Chosen::Divisors(Divisors::of(n)?),
+                &self.sheet,
+                u,
+                v,
+                slots,
+            ),
+            Site::Frame => {
+                let frame = self.frame.ok_or(Error::NoFrame)?;
+                tried(&Chosen::Frame(frame), &self.sheet, u, v, slots)
+            }
         }
     }
 
-    fn try_trial(&self, heap: Global, trial: Trial) -> Result<Answer, AllocError>
-        ensures { IfOk result (λ a. replied a ≡ trying (desk_of self.now) (trial_asked trial.entry)) }
+    fn try_trial(&self, heap: Global, trial: Trial) -> Result<Result<Answer, Error>, AllocError>
+        ensures { IfOk result (λ r. replied r ≡ trying (desk_of self.now) (trial_asked trial.entry)) }
     {
         let Some(slots) = slots_of(heap, &self.sheet, trial.u.max(trial.v), trial.slots)? else {
-            return Ok(Answer::Misused(Verb::Try));
+            return Ok(Err(Error::Misused(Verb::Try)));
         };
         Ok(self.on_site(trial.site, trial.u, trial.v, slots))
     }
 
     // Makes the call that a command asks for. It can only fail for want of memory, and then leaves the desk as it was.
-    pub fn call(&mut self, heap: Global, command: Command) -> Result<Answer, AllocError>
-        ensures { MatchResult result (λ a. (desk_of self.new, replied a) ≡ step (desk_of self.old) (called command.entry)) (λ _. desk_of self.new ≡ desk_of self.old) }
+    pub fn call(
+        &mut self,
+        heap: Global,
+        command: Command,
+    ) -> Result<Result<Answer, Error>, AllocError>
+        ensures { MatchResult result (λ r. (desk_of self.new, replied r) ≡ step (desk_of self.old) (called command.entry)) (λ _. desk_of self.new ≡ desk_of self.old) }
     {
-        match command {
-            Command::Enter(node) => Ok(self.enter(node)),
-            Command::Read(text) => Ok(self.read(text)),
+        Ok(match command {
+            Command::Enter(node) => self.enter(node),
+            Command::Read(text) => self.read(text),
             Command::Blank => {
                 self.sheet.keep(0);
                 Ok(Answer::Blank)
             }
-            Command::Draft(n) => Ok(self.draft(n)),
-            Command::Line(a, b) => Ok(self.line(a, b)),
-            Command::Close => Ok(self.close()),
-            Command::Try(trial) => self.try_trial(heap, trial),
-        }
+            Command::Draft(n) => self.draft(n),
+            Command::Line(a, b) => self.line(a, b),
+            Command::Close => self.close(),
+            Command::Try(trial) => self.try_trial(heap, trial)?,
+        })
     }
 }

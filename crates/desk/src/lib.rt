@@ -5,5 +5,5 @@ mod answer;
 mod chosen;
 mod desk;
 
-pub use answer::{Answer, Refusal, Tried};
+pub use answer::{Answer, Error, Tried};
 pub use desk::Desk;

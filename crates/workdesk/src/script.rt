@@ -8,19 +8,23 @@ ghost use Rattle.desk.specs.View.{desk_of};
 ghost use Rattle.workdesk.specs.Scripts.{line_step, transcript};
 
 use command::{Line, parse};
-use desk::{Answer, Desk};
+use desk::{Answer, Desk, Error};
 use std::alloc::{AllocError, Global};
 use text::split_line;
 
 // What a line answers: nothing, if it is empty or a comment.
-fn answer(heap: Global, desk: &mut Desk, line: &[u8]) -> Result<Option<Answer>, AllocError>
+fn answer(
+    heap: Global,
+    desk: &mut Desk,
+    line: &[u8],
+) -> Result<Option<Result<Answer, Error>>, AllocError>
     ensures { IfOk result (λ o. (desk_of desk.new, option_map replied o) ≡ line_step (desk_of desk.old) line.now) }
 {
     match parse(line) {
         Line::Silent => Ok(None),
         Line::Call(command) => Ok(Some(desk.call(heap, command)?)),
-        Line::Misused(verb) => Ok(Some(Answer::Misused(verb))),
-        Line::Unknown => Ok(Some(Answer::Unknown)),
+        Line::Misused(verb) => Ok(Some(Err(Error::Misused(verb)))),
+        Line::Unknown => Ok(Some(Err(Error::Unknown))),
     }
 }
 
@@ -32,8 +36,10 @@ pub fn transcribe(heap: Global, script: &[u8]) -> Result<String, AllocError>
     let mut out = String::new(heap);
     let mut rest = script;
     while let Some((line, more)) = split_line(rest) {
-        if let Some(answer) = answer(heap, &mut desk, line)? {
-            out.writeln(answer)?;
+        match answer(heap, &mut desk, line)? {
+            None => {}
+            Some(Ok(answer)) => out.writeln(answer)?,
+            Some(Err(error)) => out.writeln(error)?,
         }
         rest = more;
     }

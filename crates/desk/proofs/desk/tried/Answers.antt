@@ -1,25 +1,23 @@
-use Rattle.std.proofs.Common.{Ok, Err, ap, ◌∙◌}
+use Rattle.std.proofs.Common.{Ok, Err, rules, ap, ◌∙◌}
 use Rattle.std.proofs.lemmas.List.{with_items_is}
 use Rattle.sheet.specs.View.{nodes_of}
 use Rattle.trying.specs.Refused.{row}
-use Rattle.trying.proofs.Numbers.{tried_answers}
-use Rattle.desk.specs.Sites.{site, meaning}
+use Rattle.desk.specs.Sites.{site}
 use Rattle.desk.specs.Answers.{tried}
-use Rattle.desk.specs.Desks.{granted, tried_on}
 use Rattle.desk.specs.SitesLemmas.{decides}
+use Rattle.desk.proofs.Trials.{trial_answers}
 use Rattle.desk.proofs.desk.tried.Goals as goal
 
-pub returns-in-Ok : goal.returns-in-Ok
-returns-in-Ok c =
+pub returns : goal.returns
+returns c =
     let k = c.args.lattice.now in
-    let b = c.in-Ok.holds in
+    let b = c.in_ok-holds.holds in
     let t = c.try_in.new.slots in
     ap (tried b) (with_items_is c.args.slots t (c.try_in.auto.slots ∙ c.deref_mut.ensures.len))
-    ∙ ap (granted (λ p. tried p.0 p.1)) (tried_answers (meaning k) (site k).admits (decides k) (nodes_of c.args.sheet.now) c.deref_mut.result.now c.args.u c.args.v t (Ok b) c.in-Ok.ensures.tried)
-    ∙ ap (λ s. tried_on (nodes_of c.args.sheet.now) c.args.u c.args.v s (site k)) c.deref_mut.ensures.value
+    ∙ trial_answers (site k) (decides k) (nodes_of c.args.sheet.now) c.args.u c.args.v _ _ t (Ok b) c.deref_mut.ensures.value c.in_ok-holds.ensures.tried
 
-pub returns-in-Err : goal.returns-in-Err
-returns-in-Err c =
+pub returns-in_err-holds : goal.returns-in_err-holds
+returns-in_err-holds c =
     let k = c.args.lattice.now in
-    ap (granted (λ p. tried p.0 p.1)) (tried_answers (meaning k) (site k).admits (decides k) (nodes_of c.args.sheet.now) c.deref_mut.result.now c.args.u c.args.v c.try_in.new.slots (Err (row c.in-Err.refusal)) c.in-Err.ensures.tried)
-    ∙ ap (λ s. tried_on (nodes_of c.args.sheet.now) c.args.u c.args.v s (site k)) c.deref_mut.ensures.value
+    let e = trial_answers (site k) (decides k) (nodes_of c.args.sheet.now) c.args.u c.args.v c.args.slots.items _ c.try_in.new.slots (Err (row c.in_err-holds.field-0.0)) c.deref_mut.ensures.value c.in_err-holds.ensures.tried in
+    search rules
