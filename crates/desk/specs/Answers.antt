@@ -1,5 +1,6 @@
 -- The replies to the commands of a script, and the text of each.
 --   Reply          what a line is answered, refusals by number
+--   mistaken m     the reply that a line's mistake is
 --   answered a     the reply that an answer is
 --   erred e        the reply that an error is
 --   replied r      the reply that an answer or an error is
@@ -12,6 +13,8 @@ use Rattle.frames.specs.Refused.{row as row_of_frames}
 use Rattle.trying.specs.Refused.{row as row_of_trying}
 use Rattle.reader.specs.Faults.{Row, text as fault_text, row as row_of_fault}
 use Rattle.command.specs.declared.verb.Verb.{Verb}
+use Rattle.command.specs.declared.mistake.Mistake.{Mistake}
+use Rattle.command.specs.declared.mistake.Mistake.TheVariants as mistake
 use Rattle.command.specs.Verbs.{form}
 use Rattle.desk.specs.declared.answer.Answer.{Answer}
 use Rattle.desk.specs.declared.answer.Answer.TheVariants as answer
@@ -40,6 +43,10 @@ answered (answer.Line a b) = related a b
 answered (answer.Frame n) = framed n
 answered (answer.Tried t) = tried t.holds (vec_items t.slots)
 
+abbrev pub mistaken : Mistake → Reply
+mistaken (mistake.Misused v) = misused v
+mistaken mistake.Unknown = unknown
+
 abbrev pub erred : Error → Reply
 erred (error.Sheet r) = refuses (row_of_sheet r)
 erred (error.Divisors r) = refuses (row_of_divisors r)
@@ -48,8 +55,7 @@ erred (error.Trying r) = refuses (row_of_trying r)
 erred (error.Fault f) = faulted (row_of_fault f)
 erred error.NoDraft = no_draft
 erred error.NoFrame = no_frame
-erred (error.Misused v) = misused v
-erred error.Unknown = unknown
+erred (error.Mistake m) = mistaken m
 
 abbrev pub replied : Result Answer Error → Reply
 replied (Ok a) = answered a

@@ -3,7 +3,7 @@ ghost use Rattle.std.specs.Prelude.{◌≡◌, Some};
 ghost use Rattle.desk.specs.declared.answer.Error.TheVariants as error;
 ghost use Rattle.desk.specs.Answers.{answered, erred, tried_text, reply_text};
 
-use command::Verb;
+use command::Mistake;
 use reader::Fault;
 use std::fmt;
 
@@ -35,8 +35,7 @@ pub enum Error {
     Fault(Fault),
     NoDraft,
     NoFrame,
-    Misused(Verb),
-    Unknown,
+    Mistake(Mistake),
 }
 
 impl From<sheet::Refusal> for Error {
@@ -76,6 +75,14 @@ impl From<Fault> for Error {
 
     fn from(fault: Fault) -> Error {
         Error::Fault(fault)
+    }
+}
+
+impl From<Mistake> for Error {
+    ghost from_gives = { λ m e. e ≡ error.Mistake m };
+
+    fn from(mistake: Mistake) -> Error {
+        Error::Mistake(mistake)
     }
 }
 
@@ -122,8 +129,7 @@ impl fmt::Display for Error {
             Error::Fault(fault) => write!(f, "refused {fault}"),
             Error::NoDraft => f.write_str("no draft"),
             Error::NoFrame => f.write_str("no frame"),
-            Error::Misused(verb) => write!(f, "usage: {verb}"),
-            Error::Unknown => f.write_str("unknown command"),
+            Error::Mistake(mistake) => write!(f, "{mistake}"),
         }
     }
 }

@@ -10,7 +10,7 @@ ghost use Rattle.desk.specs.View.{desk_of};
 
 use crate::answer::{Answer, Error, Tried};
 use crate::chosen::Chosen;
-use command::{Command, Site, Trial, Verb, slots_of};
+use command::{Command, Mistake, Site, Trial, Verb, slots_of};
 use divisors::Divisors;
 use frames::{Draft, Frame};
 use reader::read;
@@ -119,7 +119,7 @@ impl Desk {
         ensures { IfOk result (λ r. replied r ≡ trying (desk_of self.now) (trial_asked trial.entry)) }
     {
         let Some(slots) = slots_of(heap, &self.sheet, trial.u.max(trial.v), trial.slots)? else {
-            return Ok(Err(Error::Misused(Verb::Try)));
+            return Ok(Err(Error::Mistake(Mistake::Misused(Verb::Try))));
         };
         Ok(self.on_site(trial.site, trial.u, trial.v, slots))
     }

@@ -1,9 +1,11 @@
-// The desk that a script works on: a sheet, a draft and a frame, and what each command does to them.
+// The desk that a script works on: a sheet, a draft and a frame, what each command does to them, and what a script answers.
 #![tactic(auto)]
 
 mod answer;
 mod chosen;
 mod desk;
+mod script;
 
 pub use answer::{Answer, Error, Tried};
 pub use desk::Desk;
+pub use script::transcribe;

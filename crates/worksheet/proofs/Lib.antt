@@ -1,4 +1,1 @@
-pub mod Numerals
-pub mod SplitWords
-pub mod SplitLines
-pub mod Transcripts
+pub mod Sheets

@@ -1,6 +1,0 @@
-use Rattle.std.proofs.Common.{◌≡◌, drop}
-use Rattle.worksheet.proofs.Numerals.{figures}
-use Rattle.worksheet.proofs.words.number.Given as goal
-
-abbrev pub invariant-loop-b : goal.invariant-loop-b
-invariant-loop-b l = figures l.n (drop l.b-index l.word) ≡ figures 0 l.word
