@@ -1,2 +1,1 @@
 pub mod AllVerbs
-pub mod Filling

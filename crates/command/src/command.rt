@@ -28,15 +28,9 @@ fn node(words: &[u8]) -> Option<Node>
 {
     let (first, rest) = split_word(words)?;
     match first {
-        b"meet" => {
-            let (a, b) = two_numbers(rest)?;
-            Some(Node::Meet(a as usize, b as usize))
-        }
-        b"join" => {
-            let (a, b) = two_numbers(rest)?;
-            Some(Node::Join(a as usize, b as usize))
-        }
-        _ => Some(Node::Variable(one_number(words)?)),
+        b"meet" => two_numbers(rest).map(|(a, b)| Node::Meet(a as usize, b as usize)),
+        b"join" => two_numbers(rest).map(|(a, b)| Node::Join(a as usize, b as usize)),
+        _ => one_number(words).map(Node::Variable),
     }
 }
 

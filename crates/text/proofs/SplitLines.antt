@@ -1,7 +1,6 @@
 -- A script's first line, and its other lines.
-use Rattle.std.proofs.Common.{◌≡◌, ℕ, zero, suc, ◌-◌, ◌<◌, Bool, true, false, eqb, List, [], ◌∷◌, length, get_or, take, drop, Some, None, sym, refl, ap, ◌∙◌, one-add, arith, eq-eqb}
+use Rattle.std.proofs.Common.{◌≡◌, ℕ, zero, suc, ◌-◌, ◌<◌, Bool, true, false, eqb, List, [], ◌∷◌, length, get_or, take, drop, sym, refl, ap, ◌∙◌, one-add, arith, eq-eqb}
 use mathlib.Core.Bool.{and-false}
-use Rattle.std.proofs.lemmas.List.{take_rest}
 use Rattle.std.proofs.lemmas.Bool.Decides.{nat_tests}
 use Rattle.text.specs.Words.{reach, spread}
 use Rattle.text.specs.Lines.{longer, lines_of, chomped, fed_line, first_line}
@@ -45,25 +44,3 @@ by_feed b (c ∷ cs) false f more = before b c cs (eqb c 10) refl (eqb b 13) ref
 pub lines_first : (l : List ℕ) → lines_of l ≡ spread lines_of (first_line l)
 lines_first [] = refl
 lines_first (b ∷ bs) = by_feed b bs (eqb b 10) refl (lines_first bs)
-
-first_is : (s l r : List ℕ) (n : ℕ) → 0 < length s → n ≡ reach 10 s → l ≡ take n s → r ≡ drop n s → Some (fed_line l r) ≡ first_line s
-first_is [] l r n h e p q = absurd (omega arith)
-first_is (b ∷ bs) l r n h e p q = cc
-
-fed_none : (l r : List ℕ) → length r ≡ 0 → (l, r) ≡ fed_line l r
-fed_none l [] h = refl
-fed_none l (b ∷ bs) h = absurd (omega arith)
-
-fed_some : (l r : List ℕ) → 0 < length r → (chomped l, take (length r - 1) (drop 1 r)) ≡ fed_line l r
-fed_some l [] h = absurd (omega arith)
-fed_some l (b ∷ bs) h = ap (λ (x : List ℕ). (chomped l, x)) (take_rest (b ∷ bs) 1)
-
-pub none_first : (s : List ℕ) → length s ≡ 0 → first_line s ≡ None
-none_first [] h = refl
-none_first (b ∷ bs) h = absurd (omega arith)
-
-pub last_first : (s l r : List ℕ) (n : ℕ) → 0 < length s → n ≡ reach 10 s → l ≡ take n s → r ≡ drop n s → length r ≡ 0 → Some (l, r) ≡ first_line s
-last_first s l r n h e p q none = ap (λ x. Some x) (fed_none l r none) ∙ first_is s l r n h e p q
-
-pub fed_first : (s l r l' : List ℕ) (n : ℕ) → 0 < length s → n ≡ reach 10 s → l ≡ take n s → r ≡ drop n s → 0 < length r → l' ≡ chomped l → Some (l', take (length r - 1) (drop 1 r)) ≡ first_line s
-fed_first s l r l' n h e p q some k = ap (λ x. Some (x, take (length r - 1) (drop 1 r))) k ∙ ap (λ x. Some x) (fed_some l r some) ∙ first_is s l r n h e p q

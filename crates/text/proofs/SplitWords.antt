@@ -1,19 +1,6 @@
 -- A line's first word, and its other words.
-use Rattle.std.proofs.Common.{◌≡◌, ℕ, ◌+◌, ◌-◌, ◌<◌, Bool, true, false, cond, eqb, List, [], ◌∷◌, ◌++◌, length, get_or, take, drop, Some, None, Option, sym, refl, ap, ◌∙◌, append_assoc, append-nil, one-add, arith, length-drop, eq-eqb}
-use Rattle.std.proofs.lemmas.List.{take_rest}
-use Rattle.std.proofs.lemmas.Bool.Decides.{nat_tests}
+use Rattle.std.proofs.Common.{◌≡◌, ℕ, ◌+◌, ◌<◌, Bool, true, false, cond, eqb, List, [], ◌∷◌, ◌++◌, length, take, drop, Some, None, Option, refl, ap, ◌∙◌, append_assoc, append-nil, one-add, arith, length-drop}
 use Rattle.text.specs.Words.{reach, first_of, first_word, unless_empty, words_behind, words_of, spread, trimmed}
-
--- the spaces before the first word
-pub past_space : (xs : List ℕ) → 0 < length xs → get_or xs 0 0 ≡ 32 → trimmed (take (length xs - 1) (drop 1 xs)) ≡ trimmed xs
-past_space [] h e = absurd (omega arith)
-past_space (b ∷ bs) h e = ap trimmed (take_rest (b ∷ bs) 1) ∙ sym (rw (eq-eqb b 32 e))
-
-pub at_word : (xs : List ℕ) → (0 < length xs → get_or xs 0 0 ≡ 32 → ⊥) → trimmed xs ≡ xs
-at_word [] h = refl
-at_word (b ∷ bs) h =
-    let off : eqb b 32 ≡ false = let no : b ≡ 32 → ⊥ = h (omega arith) in grind (arith, nat_tests) in
-    rw off
 
 -- a word that is begun goes on to the next space
 begun_on : (w : List ℕ) (b : ℕ) (bs : List ℕ) (s : Bool) → eqb b 32 ≡ s
@@ -33,14 +20,6 @@ by_space b bs false e more = rw (e, one-add, e) (begun (b ∷ []) bs)
 pub words_first : (l : List ℕ) → words_of l ≡ spread words_of (first_word l)
 words_first [] = refl
 words_first (b ∷ bs) = by_space b bs (eqb b 32) refl (words_first bs)
-
-pub none_first : (t : List ℕ) → length t ≡ 0 → first_of t ≡ None
-none_first [] h = refl
-none_first (b ∷ bs) h = absurd (omega arith)
-
-pub split_first : (t f r : List ℕ) (n : ℕ) → 0 < length t → n ≡ reach 32 t → f ≡ take n t → r ≡ drop n t → Some (f, r) ≡ first_of t
-split_first [] f r n h e p q = absurd (omega arith)
-split_first (b ∷ bs) f r n h e p q = cc
 
 -- what stands behind the first word is shorter than the line
 abbrev behind_first : Option (List ℕ × List ℕ) → List ℕ

@@ -10,10 +10,7 @@ pub fn until(bytes: &[u8], stop: u8) -> usize
     ensures value { result ≡ reach stop bytes.now }
     ensures bound { result ≤ length bytes.now }
 {
-    bytes
-        .iter()
-        .position(|b| *b == stop)
-        .unwrap_or(bytes.len())
+    bytes.iter().position(|b| *b == stop).unwrap_or(bytes.len())
 }
 
 // The line from its first word on.
