@@ -2,4 +2,5 @@ pub mod Sites
 pub mod Answers
 pub mod Desks
 pub mod View
-pub mod SitesLemmas
+pub mod Wide
+pub mod WideLaws

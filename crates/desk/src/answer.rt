@@ -88,7 +88,7 @@ impl fmt::Display for Tried {
         } else {
             "fails slots"
         })?;
-        for slot in self.slots.iter() {
+        for slot in &self.slots {
             write!(f, " {slot}")?;
         }
         Ok(())

@@ -2,8 +2,8 @@
 #![tactic(auto)]
 
 mod answer;
-mod chosen;
 mod desk;
+mod wide;
 
 pub use answer::{Answer, Error, Tried};
 pub use desk::Desk;
