@@ -122,7 +122,7 @@ impl Desk {
         Ok(self.on_site(trial.site, trial.u, trial.v, slots))
     }
 
-    // Makes the call that a command asks for. It can only fail for want of memory, and then leaves the desk as it was.
+    // Makes the call that a command asks for. Only memory can run out on it, and then it leaves the desk as it was.
     pub fn call(
         &mut self,
         heap: Global,
