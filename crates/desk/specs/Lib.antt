@@ -2,5 +2,6 @@ pub mod Sites
 pub mod Answers
 pub mod Desks
 pub mod View
+pub mod Wide
+pub mod WideLaws
 pub mod Scripts
-pub mod SitesLemmas

@@ -1,4 +1,4 @@
-// What a line of a script is answered, or why it is answered nothing, and the texts that say so.
+// What a line of a script is granted, or why it is granted nothing, and the texts that say so.
 ghost use Rattle.std.specs.Prelude.{◌≡◌, Some};
 ghost use Rattle.desk.specs.declared.answer.Error.TheVariants as error;
 ghost use Rattle.desk.specs.Answers.{answered, erred, tried_text, reply_text};
@@ -25,7 +25,7 @@ pub enum Answer {
     Tried(Tried),
 }
 
-// Why nothing was.
+// Why nothing was granted.
 #[derive(Clone, Copy)]
 pub enum Error {
     Sheet(sheet::Refusal),
@@ -38,51 +38,52 @@ pub enum Error {
     Mistake(Mistake),
 }
 
+// The conversions are written out, since derived ones would have no contract.
 impl From<sheet::Refusal> for Error {
     ghost from_gives = { λ r e. e ≡ error.Sheet r };
 
-    fn from(refusal: sheet::Refusal) -> Error {
-        Error::Sheet(refusal)
+    fn from(refusal: sheet::Refusal) -> Self {
+        Self::Sheet(refusal)
     }
 }
 
 impl From<divisors::Refusal> for Error {
     ghost from_gives = { λ r e. e ≡ error.Divisors r };
 
-    fn from(refusal: divisors::Refusal) -> Error {
-        Error::Divisors(refusal)
+    fn from(refusal: divisors::Refusal) -> Self {
+        Self::Divisors(refusal)
     }
 }
 
 impl From<frames::Refusal> for Error {
     ghost from_gives = { λ r e. e ≡ error.Frames r };
 
-    fn from(refusal: frames::Refusal) -> Error {
-        Error::Frames(refusal)
+    fn from(refusal: frames::Refusal) -> Self {
+        Self::Frames(refusal)
     }
 }
 
 impl From<trying::Refusal> for Error {
     ghost from_gives = { λ r e. e ≡ error.Trying r };
 
-    fn from(refusal: trying::Refusal) -> Error {
-        Error::Trying(refusal)
+    fn from(refusal: trying::Refusal) -> Self {
+        Self::Trying(refusal)
     }
 }
 
 impl From<Fault> for Error {
     ghost from_gives = { λ r e. e ≡ error.Fault r };
 
-    fn from(fault: Fault) -> Error {
-        Error::Fault(fault)
+    fn from(fault: Fault) -> Self {
+        Self::Fault(fault)
     }
 }
 
 impl From<Mistake> for Error {
     ghost from_gives = { λ m e. e ≡ error.Mistake m };
 
-    fn from(mistake: Mistake) -> Error {
-        Error::Mistake(mistake)
+    fn from(mistake: Mistake) -> Self {
+        Self::Mistake(mistake)
     }
 }
 
@@ -95,7 +96,7 @@ impl fmt::Display for Tried {
         } else {
             "fails slots"
         })?;
-        for slot in self.slots.iter() {
+        for slot in &self.slots {
             write!(f, " {slot}")?;
         }
         Ok(())

@@ -1,18 +1,19 @@
 // The desk, and what each command does to it.
-ghost use Rattle.std.specs.Prelude.{◌≡◌, IfOk, MatchResult};
+ghost use Rattle.std.specs.Prelude.{◌≡◌, ℕ, Bool, IfOk, MatchResult};
 ghost use Rattle.sheet.specs.View.{nodes_of};
 ghost use Rattle.command.specs.Commands.{called};
 ghost use Rattle.command.specs.Trials.{trial_asked};
-ghost use Rattle.desk.specs.Sites.{site};
+ghost use Rattle.desk.specs.Sites.{site, Tells};
 ghost use Rattle.desk.specs.Answers.{replied};
 ghost use Rattle.desk.specs.Desks.{cleared, entering, reading, drafting, relating, closing, tried_on, on_site, trying, step};
 ghost use Rattle.desk.specs.View.{desk_of};
 
 use crate::answer::{Answer, Error, Tried};
-use crate::chosen::Chosen;
+use crate::wide::Wide;
 use command::{Command, Mistake, Site, Trial, Verb, slots_of};
 use divisors::Divisors;
 use frames::{Draft, Frame};
+use lattice::{Lattice, Sets};
 use reader::read;
 use sheet::{Node, Sheet};
 use std::alloc::{AllocError, Global};
@@ -26,15 +27,15 @@ pub struct Desk {
     frame: Option<Frame>,
 }
 
-// Tries u and v in the lattice that was chosen.
-fn tried(
-    lattice: &Chosen,
+// Tries u and v in a lattice of numbers.
+fn tried<L: Lattice<Element = u64>>(
+    lattice: &L,
     sheet: &Sheet,
     u: usize,
     v: usize,
     mut slots: Vec<u64>,
 ) -> Result<Answer, Error>
-    ensures { replied result ≡ tried_on (nodes_of sheet.now) u v slots.items (site lattice.now) }
+    ensures { (test : ℕ → Bool) → Tells test (L.means lattice.now) → replied result ≡ tried_on (nodes_of sheet.now) u v slots.items (site (L.means lattice.now) test) }
 {
     let holds = try_in(lattice, sheet, u, v, &mut slots)?;
     Ok(Answer::Tried(Tried { holds, slots }))
@@ -100,17 +101,14 @@ impl Desk {
         ensures { replied result ≡ on_site (desk_of self.now) (tried_on (nodes_of self.now.sheet) u v slots.items) site }
     {
         match site {
-            Site::Sets => tried(&Chosen::Sets, &self.sheet, u, v, slots),
-            Site::Divisors(n) => tried(
-                &Chosen::Divisors(Divisors::of(n)?),
-                &self.sheet,
-                u,
-                v,
-                slots,
-            ),
+            Site::Sets => tried(&Sets, &self.sheet, u, v, slots),
+            Site::Divisors(n) => {
+                let lattice = Divisors::of(n)?;
+                tried(&Wide { lattice }, &self.sheet, u, v, slots)
+            }
             Site::Frame => {
-                let frame = self.frame.ok_or(Error::NoFrame)?;
-                tried(&Chosen::Frame(frame), &self.sheet, u, v, slots)
+                let lattice = self.frame.ok_or(Error::NoFrame)?;
+                tried(&Wide { lattice }, &self.sheet, u, v, slots)
             }
         }
     }
@@ -124,7 +122,7 @@ impl Desk {
         Ok(self.on_site(trial.site, trial.u, trial.v, slots))
     }
 
-    // Makes the call that a command asks for. It can only fail for want of memory, and then leaves the desk as it was.
+    // Makes the call that a command asks for. Only memory can run out on it, and then it leaves the desk as it was.
     pub fn call(
         &mut self,
         heap: Global,

@@ -2,9 +2,9 @@
 #![tactic(auto)]
 
 mod answer;
-mod chosen;
 mod desk;
 mod script;
+mod wide;
 
 pub use answer::{Answer, Error, Tried};
 pub use desk::Desk;
