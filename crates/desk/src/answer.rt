@@ -7,7 +7,7 @@ use command::Mistake;
 use reader::Fault;
 use std::fmt;
 
-// Whether the inequality holds, and the slots that the trial left.
+// Whether the inequality holds, and the slots that the trial left. They are left either way, so this is no Option.
 #[derive(Drop)]
 pub struct Tried {
     pub holds: bool,

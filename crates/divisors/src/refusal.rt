@@ -8,7 +8,7 @@ use std::fmt;
 #[derive(Clone, Copy, PartialEq, Eq, Debug)]
 pub enum Refusal {
     // Every number divides 0.
-    Zero,
+    Zero = 17,
 }
 
 impl Refusal {
@@ -16,9 +16,7 @@ impl Refusal {
     pub fn number(self) -> u8
         ensures { result ≡ (row self).number }
     {
-        match self {
-            Refusal::Zero => 17,
-        }
+        self as u8
     }
 }
 

@@ -9,7 +9,7 @@ use std::test::Fail;
 // A text, its node, and how many nodes there are then.
 pub(crate) type Granted = (&'static [u8], usize, usize);
 
-// A text, the number of its fault, and the place.
+// A text, the number of its fault, and the place. The numbers are what users see, so the trials say them as numbers.
 pub(crate) type Refused = (&'static [u8], u8, usize);
 
 // Enters the first n variables, a, a0, a1 and so on, so that node k is the variable with code k.

@@ -33,6 +33,7 @@ fn node_at(sheet: &Sheet, k: usize) -> Node
 }
 
 // The first variable below `end` whose slot the lattice does not admit.
+// A struct of the lattice, the sheet and `end` would be made in `try_in` alone, for this call and the next.
 fn stray<L: Lattice>(lattice: &L, sheet: &Sheet, end: usize, slots: &[L::Element]) -> Option<usize>
     requires nodes { end ≤ length (nodes_of sheet.now) }
     requires room { end ≤ length slots.now }
