@@ -1,7 +1,7 @@
-use Rattle.std.proofs.Common.{refl, subst, le_antisymm, arith, rules}
+use Rattle.std.proofs.Common.{refl, arith, rules}
 use Rattle.sheet.specs.declared.node.Node.TheVariants.{Meet, Join}
 use Rattle.sheet.specs.View.{nodes_of}
-use Rattle.trying.proofs.Turns.{Turn, turn_variable, turn_made}
+use Rattle.trying.proofs.Turns.{turn_variable, turn_made}
 use Rattle.trying.proofs.trying.fill.Goals as goal
 use Rattle.trying.proofs.trying.fill.Goals.{in-Variable, in-Meet, in-Join}
 
@@ -22,9 +22,3 @@ loop-k-preserved g c =
           turn_made m ns m.join laws.join_admitted (Join _ _) k _ _ (λ d l. refl) w.in-Join.ensures.is w.in-Join.ensures.parts s t _ _ _ _
           (omega arith) c.loop-k.invariant w.index-slots-a-in-Join.is w.index-slots-b-in-Join.is (search rules) w.slots-is
     ]
-
-pub returns : goal.returns
-returns g c =
-    let m = g.L.Lattice.means c.args.lattice.now in
-    let all = subst (λ n. Turn m (nodes_of c.args.sheet.now) n c.args.slots.now c.loop-k.slots) (le_antisymm c.loop-k.auto.k-end c.loop-k-test.false) c.loop-k.invariant in
-    record { filled = all.slots; admitted = all.admitted }

@@ -19,10 +19,6 @@ returns-in-Some c =
       law = entered_old S.nodes c.args.node c.in-Some.k c.args.self.now.grounded there;
     }
 
-pub push_reserved-requires : goal.push_reserved-requires
-push_reserved-requires c =
-    let sheet = c.args.self.now in omega (arith, sheet.few, sheet.room, count_is sheet)
-
 pub invariant_of-self : goal.invariant_of-self
 invariant_of-self c =
     let sheet = c.args.self.now in

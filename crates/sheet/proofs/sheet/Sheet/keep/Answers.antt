@@ -3,11 +3,8 @@ use lib.ListN.{length-map}
 use Rattle.std.proofs.lemmas.List.{length-take}
 use Rattle.sheet.specs.Nodes.{Grounded, Distinct}
 use Rattle.sheet.specs.Records.{nodes, memo, within, Inside}
-use Rattle.sheet.specs.View.{state}
 use Rattle.sheet.proofs.Nodes.{grounded_less, distinct_less}
 use Rattle.sheet.proofs.Records.{nodes_shorter, memo_shorter, inside_shorter}
-use Rattle.sheet.proofs.Keep.{kept_all}
-use Rattle.sheet.proofs.View.{count_is, settled_inside}
 use Rattle.sheet.proofs.sheet.Sheet.keep.Goals as goal
 
 pub invariant_of-self : goal.invariant_of-self
@@ -34,8 +31,3 @@ returns-then-n-len c =
     let all = ap nodes items ∙ nodes_shorter c.args.n rs in
     let settled = ap memo items ∙ memo_shorter c.args.n rs (omega (arith, c.args.self.now.records.ok.0)) in
     λ i. record { nodes = all i; memo = settled i }
-
-pub returns-else-n-len : goal.returns-else-n-len
-returns-else-n-len c =
-    let sheet = c.args.self.now in
-    sym (kept_all c.args.n (state sheet) (omega (arith, count_is sheet)) (settled_inside sheet))
