@@ -1,5 +1,5 @@
 -- What is cut from a text.
-use Rattle.std.proofs.Common.{◌≡◌, ℕ, ◌+◌, ◌-◌, ◌<◌, Bool, true, false, cond, List, [], ◌∷◌, length, get_or, take, drop, IfSome, IfOk, Some, None, Ok, Err, Option, Result, sym, ap, ◌∙◌, subst, arith}
+use Rattle.std.proofs.Common.{◌≡◌, ℕ, ◌+◌, ◌-◌, ◌<◌, Bool, true, false, cond, List, [], ◌∷◌, length, take, drop, IfSome, IfOk, Some, None, Ok, Err, Option, Result, sym, ap, ◌∙◌, subst, arith}
 use Rattle.std.specs.Char.{is_ascii_digit, is_ascii_lowercase}
 use Rattle.std.specs.List.{prefix_len}
 use Rattle.std.proofs.lemmas.List.{take_rest, drop-drop}
@@ -54,10 +54,3 @@ step text at b s r hb hs hr =
       after = ap (λ n. at + b + n) es ∙ ap (λ n. at + n + size (drop n rest)) eb;
       some = subst (λ x. IfOk x (λ o. IfSome o (λ _. at < at + b + s))) (sym er) (judged_some (at + b) (drop b rest) (at < at + b + s) (λ h. omega (arith, es)));
     }
-
-pub two : (xs : List ℕ) (d : ℕ) → 1 < length xs → is_ascii_lowercase (get_or xs 0 0) ≡ true → is_ascii_digit (get_or xs 1 0) ≡ true → d ≡ prefix_len is_ascii_digit (take (length xs - 2) (drop 2 xs)) → 2 + d ≡ size xs
-two [] d h l n e = absurd (omega arith)
-two (x ∷ []) d h l n e = absurd (omega arith)
-two (x ∷ y ∷ zs) d h l n e =
-    let e' : d ≡ prefix_len is_ascii_digit zs = e ∙ ap (prefix_len is_ascii_digit) (take_rest (x ∷ y ∷ zs) 2) in
-    ap (λ k. 2 + k) e' ∙ sym (ap (λ a. cond a (cond (is_ascii_digit y) (2 + prefix_len is_ascii_digit zs) 1) 1) l ∙ ap (λ a. cond a (2 + prefix_len is_ascii_digit zs) 1) n)

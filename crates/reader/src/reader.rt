@@ -10,7 +10,7 @@ ghost use Rattle.reader.specs.Exact.{Exact};
 use crate::cutter::Cutter;
 use crate::fault::{Cause, Fault, Layer};
 use crate::token::{Kind, Token};
-use sheet::{Node, Refusal, Sheet};
+use sheet::{Node, Sheet};
 
 // The most brackets that may be open.
 const DEEPEST: usize = 16;
@@ -29,16 +29,6 @@ enum Held {
     Several(usize),
 }
 
-fn fault(cause: Cause, place: usize) -> Fault
-    ensures { row result ≡ by_reader (number_of cause) place }
-{
-    Fault {
-        cause,
-        place,
-        layer: Layer::Reader,
-    }
-}
-
 // Enters a node whose code or parts are there, so that it can only be refused for want of room.
 fn enter_at(sheet: &mut Sheet, node: Node, place: usize) -> Result<usize, Fault>
     requires { fits (length (nodes_of sheet.old)) node ≡ true }
@@ -46,16 +36,9 @@ fn enter_at(sheet: &mut Sheet, node: Node, place: usize) -> Result<usize, Fault>
     ensures nodes { nodes_of sheet.new ≡ grown (nodes_of sheet.old) node (find (nodes_of sheet.old) node) }
     ensures memo { memo_of sheet.new ≡ memo_of sheet.old }
 {
-    match sheet.enter(node) {
-        Ok(k) => Ok(k),
-        Err(Refusal::Full) => Err(Fault {
-            cause: Cause::Full,
-            place,
-            layer: Layer::Sheet,
-        }),
-        Err(Refusal::NoNode(_)) => unreachable(),
-        Err(Refusal::BadCode) => unreachable(),
-    }
+    sheet
+        .enter(node)
+        .map_err(|_| Layer::Sheet.fault(Cause::Full, place))
 }
 
 fn sign_due(cutter: &mut Cutter) -> Result<Sign, Fault>
@@ -64,12 +47,12 @@ fn sign_due(cutter: &mut Cutter) -> Result<Sign, Fault>
     ensures outcome { (ns : List Node) → ended (told result) ns cutter.new.at ≡ read_sign cutter.old.text.now ns cutter.old.at }
 {
     let Some(token) = cutter.next()? else {
-        return Err(fault(Cause::Unfinished, cutter.len()));
+        return Err(Layer::Reader.fault(Cause::Unfinished, cutter.len()));
     };
     match token.kind {
         Kind::Plus => Ok(Sign::Join),
         Kind::Star => Ok(Sign::Meet),
-        _ => Err(fault(Cause::Misplaced, token.place)),
+        _ => Err(Layer::Reader.fault(Cause::Misplaced, token.place)),
     }
 }
 
@@ -96,7 +79,7 @@ fn close(held: Held, place: usize) -> Result<usize, Fault>
 {
     match held {
         Held::Several(whole) => Ok(whole),
-        _ => Err(fault(Cause::TooShort, place)),
+        _ => Err(Layer::Reader.fault(Cause::TooShort, place)),
     }
 }
 
@@ -113,11 +96,11 @@ fn term(cutter: &mut Cutter, sheet: &mut Sheet, token: Token, left: usize) -> Re
         Kind::Variable(code) => enter_at(sheet, Node::Variable(code), token.place),
         Kind::Open => {
             if left == 0 {
-                return Err(fault(Cause::TooDeep, token.place));
+                return Err(Layer::Reader.fault(Cause::TooDeep, token.place));
             }
             list(cutter, sheet, left - 1)
         }
-        _ => Err(fault(Cause::Misplaced, token.place)),
+        _ => Err(Layer::Reader.fault(Cause::Misplaced, token.place)),
     }
 }
 
@@ -133,7 +116,7 @@ fn list(cutter: &mut Cutter, sheet: &mut Sheet, left: usize) -> Result<usize, Fa
     let mut held = Held::Nothing;
     loop {
         let Some(token) = cutter.next()? else {
-            return Err(fault(Cause::Unfinished, cutter.len()));
+            return Err(Layer::Reader.fault(Cause::Unfinished, cutter.len()));
         };
         if let Kind::Close = token.kind {
             return close(held, token.place);
@@ -150,7 +133,7 @@ fn end(cutter: &mut Cutter, node: usize) -> Result<usize, Fault>
     let Some(extra) = cutter.next()? else {
         return Ok(node);
     };
-    Err(fault(Cause::Trailing, extra.place))
+    Err(Layer::Reader.fault(Cause::Trailing, extra.place))
 }
 
 // The one term of a text.
@@ -159,7 +142,7 @@ fn whole(cutter: &mut Cutter, sheet: &mut Sheet) -> Result<usize, Fault>
     ensures memo { memo_of sheet.new ≡ memo_of sheet.old }
 {
     let Some(token) = cutter.next()? else {
-        return Err(fault(Cause::Unfinished, cutter.len()));
+        return Err(Layer::Reader.fault(Cause::Unfinished, cutter.len()));
     };
     let node = term(cutter, sheet, token, DEEPEST)?;
     end(cutter, node)

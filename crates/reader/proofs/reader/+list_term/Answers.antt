@@ -52,7 +52,7 @@ list-returns-in_default t c =
     record {
       text = c.next.ensures.text ∙ c.loop-token.invariant.0 ∙ c.sign_due.ensures.text;
       onward = omega (arith, c.next.ensures.onward, c.loop-token.invariant.1, c.sign_due.ensures.onward);
-      outcome = ended_eq (ap Err (c.fault.ensures ∙ ap (by_reader 3) long)) refl c.next.ensures.after
+      outcome = ended_eq (ap Err ((ap row c.fault.ensures) ∙ ap (by_reader 3) long)) refl c.next.ensures.after
           ∙ turn_none c.loop-token.invariant.2 (ap Ok (sym c.in_default.is) ∙ c.in_ok-token.ensures.answer)
           ∙ started _ _ _ _ _ _ _ c.sign_due.ensures.text (c.in_ok-sign.ensures.outcome _);
       memo = c.loop-token.invariant.4;
@@ -113,6 +113,6 @@ term-returns-in_default t c =
     record {
       text = refl;
       onward = omega arith;
-      outcome = ended_eq (ap Err c.fault-in_default.ensures) refl refl ∙ term_misplaced _ c.args.token _ _ c.args.left c.in_default.not-Variable c.in_default.not-Open;
+      outcome = ended_eq (ap Err (ap row c.fault-in_default.ensures)) refl refl ∙ term_misplaced _ c.args.token _ _ c.args.left c.in_default.not-Variable c.in_default.not-Open;
       memo = refl;
     }
