@@ -5,7 +5,6 @@ use Rattle.sheet.specs.declared.sheet.Sheet.{Sheet}
 use Rattle.sheet.specs.State.{State, count}
 use Rattle.sheet.specs.Keep.{kept}
 use Rattle.sheet.specs.View.{state, nodes_of}
-use Rattle.sheet.proofs.Nodes.{clash}
 use Rattle.sheet.proofs.Keep.{kept_back}
 use Rattle.sheet.proofs.View.{at_most, settled_inside}
 use Rattle.reader.specs.declared.fault.Fault.{Fault}
@@ -18,12 +17,12 @@ use Rattle.reader.proofs.Growing.{grown_by}
 use Rattle.reader.proofs.Exact.{exact}
 
 finished_err : (S : State) (r : Result ℕ Fault) (ns : List Node) (at : ℕ) → is_err r ≡ true → (S, told r) ≡ finished S (ended (told r) ns at)
-finished_err S (Ok k) ns at h = absurd (clash (sym h))
+finished_err S (Ok k) ns at h = absurd (cc)
 finished_err S (Err f) ns at h = refl
 
 finished_ok : (S : State) (r : Result ℕ Fault) (ns : List Node) (at : ℕ) → is_err r ≡ false → (record { nodes = ns; memo = S.memo }, told r) ≡ finished S (ended (told r) ns at)
 finished_ok S (Ok k) ns at h = refl
-finished_ok S (Err f) ns at h = absurd (clash h)
+finished_ok S (Err f) ns at h = absurd (cc)
 
 -- what read promises, where it leaves the sheet as `after`
 abbrev pub Read : Sheet → List ℕ → State → Result ℕ Row → Type 0

@@ -1,6 +1,5 @@
 pub mod Cutting
 pub mod Spelling
-pub mod Naming
 pub mod Reading
 pub mod Steps
 pub mod Growing
