@@ -59,6 +59,7 @@ fn number(digits: &[u8]) -> Option<u64>
     }
 }
 
+// The kind that one byte is. No TryFrom: that would be of all kinds, and a variable may take three bytes.
 fn sign(byte: u8) -> Option<Kind>
     ensures { result ≡ sign byte }
 {
@@ -75,18 +76,15 @@ fn sign(byte: u8) -> Option<Kind>
 fn judge(piece: &[u8], place: usize) -> Result<Option<Token>, Fault>
     ensures { told result ≡ judge place piece.now }
 {
-    match piece {
-        [] => Ok(None),
+    let kind = match piece {
+        [] => return Ok(None),
         [letter @ b'a'..=b'z', behind @ ..] => {
             let n = number(behind).ok_or(Layer::Cutter.fault(Cause::BadNumber, place))?;
-            let kind = Kind::Variable(u64::from(*letter - b'a') * 101 + n);
-            Ok(Some(Token { kind, place }))
+            Kind::Variable(u64::from(*letter - b'a') * 101 + n)
         }
-        [byte, ..] => {
-            let kind = sign(*byte).ok_or(Layer::Cutter.fault(Cause::NoToken, place))?;
-            Ok(Some(Token { kind, place }))
-        }
-    }
+        [byte, ..] => sign(*byte).ok_or(Layer::Cutter.fault(Cause::NoToken, place))?,
+    };
+    Ok(Some(Token { kind, place }))
 }
 
 impl<'a> Cutter<'a> {
