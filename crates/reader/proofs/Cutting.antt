@@ -1,41 +1,13 @@
 -- What is cut from a text.
-use Rattle.std.proofs.Common.{◌≡◌, ℕ, ◌+◌, ◌-◌, ◌<◌, Bool, true, false, cond, List, [], ◌∷◌, length, get_or, take, drop, IfSome, IfOk, Some, None, Ok, Err, Option, Result, sym, ap, ◌∙◌, subst, arith}
-use Rattle.std.specs.Char.{is_ascii_digit, is_ascii_lowercase}
-use Rattle.std.specs.List.{prefix_len}
+use Rattle.std.proofs.Common.{◌≡◌, ℕ, ◌+◌, ◌-◌, List, length, take, drop, Option, Result, sym, ap, ◌∙◌, arith}
 use Rattle.std.proofs.lemmas.List.{take_rest, drop-drop}
 use Rattle.reader.specs.declared.token.Token.{Token}
 use Rattle.reader.specs.Faults.{Row}
 use Rattle.reader.specs.Cutting.{blanks, size, judge, piece, cut, behind}
 
--- where a token is cut, it takes a byte at least
-either_way : (b : Bool) (m : ℕ) → 0 < cond b (2 + m) 1
-either_way true m = omega arith
-either_way false m = omega arith
-
-pub size_some : (b : ℕ) (bs : List ℕ) → 0 < size (b ∷ bs)
-size_some b [] = omega arith
-size_some b (c ∷ bs) = go (is_ascii_lowercase b)
-  where
-    go : (x : Bool) → 0 < cond x (cond (is_ascii_digit c) (2 + prefix_len is_ascii_digit bs) 1) 1
-    go true = either_way (is_ascii_digit c) (prefix_len is_ascii_digit bs)
-    go false = omega arith
-
-pub judged_some : (p : ℕ) (rest : List ℕ) (P : Type 0) → (0 < size rest → P) → IfOk (judge p (piece rest)) (λ o. IfSome o (λ _. P))
-judged_some p [] P h = tt
-judged_some p (b ∷ bs) P h = every (judge p (piece (b ∷ bs))) (h (size_some b bs))
-  where
-    each : (o : Option Token) → P → IfSome o (λ _. P)
-    each None x = tt
-    each (Some t) x = x
-
-    every : (r : Result (Option Token) Row) → P → IfOk r (λ o. IfSome o (λ _. P))
-    every (Ok o) x = each o x
-    every (Err e) x = tt
-
 pub record Step (text : List ℕ) (at b s : ℕ) (r : Result (Option Token) Row) : Type 0 where
   pub answer : r ≡ cut at (drop at text)
   pub after : at + b + s ≡ behind at (drop at text)
-  pub some : IfOk r (λ o. IfSome o (λ _. at < at + b + s))
 
 pub step : (text : List ℕ) (at b s : ℕ) (r : Result (Option Token) Row)
     → b ≡ blanks (take (length text - at) (drop at text))
@@ -52,12 +24,4 @@ step text at b s r hb hs hr =
     record {
       answer = er ∙ ap (λ n. judge (at + n) (piece (drop n rest))) eb;
       after = ap (λ n. at + b + n) es ∙ ap (λ n. at + n + size (drop n rest)) eb;
-      some = subst (λ x. IfOk x (λ o. IfSome o (λ _. at < at + b + s))) (sym er) (judged_some (at + b) (drop b rest) (at < at + b + s) (λ h. omega (arith, es)));
     }
-
-pub two : (xs : List ℕ) (d : ℕ) → 1 < length xs → is_ascii_lowercase (get_or xs 0 0) ≡ true → is_ascii_digit (get_or xs 1 0) ≡ true → d ≡ prefix_len is_ascii_digit (take (length xs - 2) (drop 2 xs)) → 2 + d ≡ size xs
-two [] d h l n e = absurd (omega arith)
-two (x ∷ []) d h l n e = absurd (omega arith)
-two (x ∷ y ∷ zs) d h l n e =
-    let e' : d ≡ prefix_len is_ascii_digit zs = e ∙ ap (prefix_len is_ascii_digit) (take_rest (x ∷ y ∷ zs) 2) in
-    ap (λ k. 2 + k) e' ∙ sym (ap (λ a. cond a (cond (is_ascii_digit y) (2 + prefix_len is_ascii_digit zs) 1) 1) l ∙ ap (λ a. cond a (2 + prefix_len is_ascii_digit zs) 1) n)

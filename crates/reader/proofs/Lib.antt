@@ -1,7 +1,7 @@
 pub mod Cutting
 pub mod Spelling
-pub mod Naming
 pub mod Reading
+pub mod Steps
 pub mod Growing
 pub mod Placing
 pub mod Sound

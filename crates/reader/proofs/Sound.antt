@@ -23,9 +23,6 @@ use Rattle.reader.proofs.Spelling.{next_some, next_none}
 use Rattle.reader.proofs.Placing.{put_by, put, placed, combined}
 
 -- what an outcome tells
-err_clash : {A : Type 0} (e : Row) (a : A) (ns ns' : List Node) (at at' : ℕ) → ◌≡◌ {A = Outcome A} (ended (Err e) ns at) (ended (Ok a) ns' at') → ⊥
-err_clash e a ns ns' at at' h = cc
-
 pub record Same {A : Type 0} (a b : A) (ns ns' : List Node) (at at' : ℕ) : Type 0 where
   pub value : a ≡ b
   pub nodes : ns ≡ ns'
@@ -43,7 +40,7 @@ pub record Bound {A B : Type 0} (o : Outcome A) (k : A → List Node → ℕ →
 
 bound : {A B : Type 0} (o : Outcome A) (k : A → List Node → ℕ → Outcome B) (b : B) (ns : List Node) (at : ℕ) → bind o k ≡ ended (Ok b) ns at → Bound o k (ended (Ok b) ns at)
 bound (ended (Ok a) ns₁ at₁) k b ns at h = record { value = a; nodes = ns₁; place = at₁; first = refl; then = h }
-bound (ended (Err e) ns₁ at₁) k b ns at h = absurd (err_clash e b ns₁ ns at₁ at h)
+bound (ended (Err e) ns₁ at₁) k b ns at h = absurd (cc)
 
 pub record Came {A : Type 0} (text : List ℕ) (ns : List Node) (at : ℕ) (k : Token → List Node → ℕ → Outcome A) (goal : Outcome A) : Type 0 where
   pub token : Token
@@ -58,8 +55,8 @@ module _ {A : Type 0} (text : List ℕ) (ns : List Node) (at : ℕ) (k : Token �
           → bind (ended r ns (behind at (drop at text))) (λ o ns₁ at₁. or_end o (refuse 3 (length text) ns₁ at₁) (λ t. k t ns₁ at₁)) ≡ ended (Ok a) ns' at'
           → Came text ns at k (ended (Ok a) ns' at')
       go (Ok (Some t)) e i = record { token = t; was = e; then = i }
-      go (Ok None) e i = absurd (err_clash _ a ns ns' _ at' i)
-      go (Err x) e i = absurd (err_clash _ a ns ns' _ at' i)
+      go (Ok None) e i = absurd (cc)
+      go (Err x) e i = absurd (cc)
 
 -- entering a node, with room and without
 pub record Entry (n : Node) (ns : List Node) (at k : ℕ) (ns' : List Node) (at' : ℕ) : Type 0 where
@@ -80,7 +77,7 @@ module _ (n : Node) (p : ℕ) (ns : List Node) (at : ℕ) where
           let s = same (length ns) k (ns ++ n ∷ []) ns' at at' i in
           let lt : length ns < 60 = grind (arith, nat_tests) in
           record_at None e (sym s.nodes) (sym s.value) (sym s.place) (omega (arith, ap length s.nodes, length_push ns n))
-      room false t e i = absurd (err_clash _ k ns ns' at at' i)
+      room false t e i = absurd (cc)
 
       go : (o : Option ℕ) → find ns n ≡ o → ended (placed_at p (numbered ns o)) (grown ns n o) at ≡ ended (Ok k) ns' at' → Entry n ns at k ns' at'
       go (Some j) e i = let s = same j k ns ns' at at' i in record_at (Some j) e (sym s.nodes) (sym s.value) (sym s.place) (omega (arith, ap length s.nodes))
@@ -193,8 +190,8 @@ module _ (left : ℕ) (text : List ℕ) (read : Token → List Node → ℕ → 
   -- the closing bracket
   closes : (held : Held) (js : List Kind) (ns : List Node) (at : ℕ) → SoFar left s ns₀ held js ns → length ns ≤ 60 → (t : Token) → cut at (drop at text) ≡ Ok (Some t) → t.kind ≡ Close
       → (k : ℕ) (ns' : List Node) (at' : ℕ) → ended (close_list held t.place) ns (behind at (drop at text)) ≡ ended (Ok k) ns' at' → Listed left text s ns₀ js at k ns' at'
-  closes Nothing js ns at f le t e c k ns' at' h = absurd (err_clash _ k ns ns' _ at' h)
-  closes (One i) js ns at f le t e c k ns' at' h = absurd (err_clash _ k ns ns' _ at' h)
+  closes Nothing js ns at f le t e c k ns' at' h = absurd (cc)
+  closes (One i) js ns at f le t e c k ns' at' h = absurd (cc)
   closes (Several i) js ns at f le t e c k ns' at' h =
       let z = same i k ns ns' (behind at (drop at text)) at' h in
       record {
@@ -210,7 +207,7 @@ module _ (left : ℕ) (text : List ℕ) (read : Token → List Node → ℕ → 
 
   parts_sound : (fuel : ℕ) (held : Held) (js : List Kind) (ns : List Node) (at : ℕ) → SoFar left s ns₀ held js ns → length ns ≤ 60
       → (k : ℕ) (ns' : List Node) (at' : ℕ) → read_parts fuel read text s held ns at ≡ ended (Ok k) ns' at' → Listed left text s ns₀ js at k ns' at'
-  parts_sound zero held js ns at f le k ns' at' h = absurd (err_clash _ k ns ns' at at' h)
+  parts_sound zero held js ns at f le k ns' at' h = absurd (cc)
   parts_sound (suc fuel) held js ns at f le k ns' at' h = go (parts_sound fuel) (came text ns at _ k ns' at' h)
     where
       onward : Token → List Node → ℕ → Outcome ℕ
@@ -258,9 +255,9 @@ module _ (left : ℕ) (text : List ℕ) (read : Token → List Node → ℕ → 
 signed_is : (t : Token) (ns : List Node) (at : ℕ) (k : Kind) (s : Sign) (ns' : List Node) (at' : ℕ) → sign_of t ns at k ≡ ended (Ok s) ns' at' → (k ≡ sign_kind s) × (ns ≡ ns') × (at ≡ at')
 signed_is t ns at Plus s ns' at' h = let z = same sign.Join s ns ns' at at' h in (ap sign_kind z.value, z.nodes, z.place)
 signed_is t ns at Star s ns' at' h = let z = same sign.Meet s ns ns' at at' h in (ap sign_kind z.value, z.nodes, z.place)
-signed_is t ns at Open s ns' at' h = absurd (err_clash _ s ns ns' at at' h)
-signed_is t ns at Close s ns' at' h = absurd (err_clash _ s ns ns' at at' h)
-signed_is t ns at (Variable c) s ns' at' h = absurd (err_clash _ s ns ns' at at' h)
+signed_is t ns at Open s ns' at' h = absurd (cc)
+signed_is t ns at Close s ns' at' h = absurd (cc)
+signed_is t ns at (Variable c) s ns' at' h = absurd (cc)
 
 open_list : (left : ℕ) (text : List ℕ) (read : Token → List Node → ℕ → Outcome ℕ) → Sound left text read → (t : Token) → t.kind ≡ Open → (ns : List Node) (at k : ℕ) (ns' : List Node) (at' : ℕ) → length ns ≤ 60
     → read_list read text ns at ≡ ended (Ok k) ns' at' → TermRead (suc left) text t ns at k ns' at'
@@ -290,12 +287,12 @@ kind_sound left text t ns at o le f (Variable c) e k ns' at' h =
     let n = entered_is (node.Variable c) t.place ns at k ns' at' le h in
     record { tree = leaf c; rest = []; are = ap (λ x. x ∷ []) (sym e); shallow = omega arith; spelled = λ ks sp. subst (λ m. Spelled (drop m text) ks) n.place sp; nodes = n.nodes; number = n.number; few = n.few }
 kind_sound left text t ns at o le f Open e k ns' at' h = f e k ns' at' h
-kind_sound left text t ns at o le f Close e k ns' at' h = absurd (err_clash _ k ns ns' at at' h)
-kind_sound left text t ns at o le f Plus e k ns' at' h = absurd (err_clash _ k ns ns' at at' h)
-kind_sound left text t ns at o le f Star e k ns' at' h = absurd (err_clash _ k ns ns' at at' h)
+kind_sound left text t ns at o le f Close e k ns' at' h = absurd (cc)
+kind_sound left text t ns at o le f Plus e k ns' at' h = absurd (cc)
+kind_sound left text t ns at o le f Star e k ns' at' h = absurd (cc)
 
 pub term_sound : (left : ℕ) (text : List ℕ) → Sound left text (read_term left text)
-term_sound zero text t ns at k ns' at' le h = kind_sound zero text t ns at _ le (λ e k₁ ns₁ at₁ i. absurd (err_clash _ k₁ ns ns₁ at at₁ i)) t.kind refl k ns' at' h
+term_sound zero text t ns at k ns' at' le h = kind_sound zero text t ns at _ le (λ e k₁ ns₁ at₁ i. absurd (cc)) t.kind refl k ns' at' h
 term_sound (suc left) text t ns at k ns' at' le h =
     kind_sound (suc left) text t ns at _ le (λ e k₁ ns₁ at₁ i. open_list left text (read_term left text) (term_sound left text) t e ns at k₁ ns₁ at₁ le i) t.kind refl k ns' at' h
 
@@ -310,7 +307,7 @@ pub record Whole (text : List ℕ) (ns : List Node) (k : ℕ) (ns' : List Node) 
 module _ (text : List ℕ) (ns : List Node) (le : length ns ≤ 60) (k : ℕ) (ns' : List Node) (at' : ℕ) where
   last : (k₁ : ℕ) (ns₁ : List Node) (at₁ : ℕ) (o : Option Token) (at₂ : ℕ) → or_end o (ended (Ok k₁) ns₁ at₂) (λ extra. refuse 7 extra.place ns₁ at₂) ≡ ended (Ok k) ns' at' → (o ≡ None) × (k₁ ≡ k) × (ns₁ ≡ ns')
   last k₁ ns₁ at₁ None at₂ h = let z = same k₁ k ns₁ ns' at₂ at' h in (refl, z.value, z.nodes)
-  last k₁ ns₁ at₁ (Some t) at₂ h = absurd (err_clash _ k ns₁ ns' at₂ at' h)
+  last k₁ ns₁ at₁ (Some t) at₂ h = absurd (cc)
 
   pub whole_sound : read_whole text ns 0 ≡ ended (Ok k) ns' at' → Whole text ns k ns'
   whole_sound h =

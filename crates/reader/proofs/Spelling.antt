@@ -1,5 +1,5 @@
 -- What the cutter cuts is what the text spells.
-use Rattle.std.proofs.Common.{◌≡◌, ℕ, zero, suc, ◌+◌, ◌-◌, ◌*◌, Bool, true, false, cond, eqb, List, [], ◌∷◌, take, drop, Some, None, Ok, Err, Option, Result, sym, refl, ap, ◌∙◌, subst, subst₂, ⊎_elim, suc-add, zero-add, one-add, arith, eqb-true}
+use Rattle.std.proofs.Common.{◌≡◌, ℕ, zero, suc, ◌+◌, ◌-◌, ◌*◌, Bool, true, false, cond, eqb, List, [], ◌∷◌, take, drop, Some, None, Ok, Option, Result, sym, refl, ap, ◌∙◌, subst, subst₂, ⊎_elim, suc-add, zero-add, one-add, arith, eqb-true}
 use Rattle.std.specs.Char.{is_ascii_digit, is_ascii_lowercase}
 use Rattle.std.specs.Int.{is_in_range}
 use Rattle.std.specs.List.{prefix_len}
@@ -138,24 +138,12 @@ cuts p (digits {l = l} {t = t} {d = d} {bs = bs} {ks = ks} h i j s) =
     )
 
 -- and the other way round
-kind_of : Kind → Result (Option Token) Row → Kind
-kind_of k (Ok (Some t)) = t.kind
-kind_of k (Ok None) = k
-kind_of k (Err e) = k
-
 pub token_kind : (k : Kind) (p : ℕ) (t : Token) → ◌≡◌ {A = Result (Option Token) Row} (Ok (Some (record { kind = k; place = p }))) (Ok (Some t)) → k ≡ t.kind
-unfolding kind_of
-token_kind k p t h = ap (kind_of k) h
-
-pub fault_clash : (e : Row) (o : Option Token) → ◌≡◌ {A = Result (Option Token) Row} (Err e) (Ok o) → ⊥
-fault_clash e o h = cc
-
-pub none_clash : (t : Token) → ◌≡◌ {A = Result (Option Token) Row} (Ok None) (Ok (Some t)) → ⊥
-none_clash t h = cc
+token_kind k p t h = cc
 
 never_none : (p : ℕ) (why : ℕ) (o : Option Kind) → token_at p why o ≡ Ok None → ⊥
-never_none p why None h = fault_clash _ _ h
-never_none p why (Some k) h = none_clash _ (sym h)
+never_none p why None h = cc
+never_none p why (Some k) h = cc
 
 module _ (p b : ℕ) (t : Token) (ks : List Kind) where
   sign_spelled : (bs : List ℕ) (x₁ x₂ x₃ x₄ : Bool) → eqb b 40 ≡ x₁ → eqb b 41 ≡ x₂ → eqb b 43 ≡ x₃ → eqb b 42 ≡ x₄
@@ -165,22 +153,22 @@ module _ (p b : ℕ) (t : Token) (ks : List Kind) where
   sign_spelled bs false true x₃ x₄ e₁ e₂ e₃ e₄ h s = subst₂ (λ x k. Spelled (x ∷ bs) (k ∷ ks)) (sym (eqb-true b 41 e₂)) (token_kind Close p t h) (closed s)
   sign_spelled bs false false true x₄ e₁ e₂ e₃ e₄ h s = subst₂ (λ x k. Spelled (x ∷ bs) (k ∷ ks)) (sym (eqb-true b 43 e₃)) (token_kind Plus p t h) (plus s)
   sign_spelled bs false false false true e₁ e₂ e₃ e₄ h s = subst₂ (λ x k. Spelled (x ∷ bs) (k ∷ ks)) (sym (eqb-true b 42 e₄)) (token_kind Star p t h) (star s)
-  sign_spelled bs false false false false e₁ e₂ e₃ e₄ h s = absurd (fault_clash _ _ h)
+  sign_spelled bs false false false false e₁ e₂ e₃ e₄ h s = absurd (cc)
 
   module _ (low : is_ascii_lowercase b ≡ true) where
     one_digit : (c : ℕ) (cs : List ℕ) (x : Bool) → is_ascii_digit c ≡ x → token_at p 2 (variable b (cond x (Some (c - 48 + 1)) None)) ≡ Ok (Some t) → Spelled cs ks → Spelled (b ∷ c ∷ cs) (t.kind ∷ ks)
     one_digit c cs true e h s =
         let code : 101 * (b - 97) + (c - 48) + 1 ≡ (b - 97) * 101 + (c - 48 + 1) = omega arith in
         subst (λ k. Spelled (b ∷ c ∷ cs) (k ∷ ks)) (ap (λ n. Variable n) code ∙ token_kind _ p t h) (digit (between 97 122 b low) (between 48 57 c e) s)
-    one_digit c cs false e h s = absurd (fault_clash _ _ h)
+    one_digit c cs false e h s = absurd (cc)
 
     two_digits : (c d : ℕ) (cs : List ℕ) (x y : Bool) → is_in_range 49 57 c ≡ x → is_ascii_digit d ≡ y
         → token_at p 2 (variable b (cond x (cond y (Some ((c - 48) * 10 + (d - 48) + 1)) None) None)) ≡ Ok (Some t) → Spelled cs ks → Spelled (b ∷ c ∷ d ∷ cs) (t.kind ∷ ks)
     two_digits c d cs true true e f h s =
         let code : 101 * (b - 97) + (10 * (c - 48) + (d - 48)) + 1 ≡ (b - 97) * 101 + ((c - 48) * 10 + (d - 48) + 1) = omega arith in
         subst (λ k. Spelled (b ∷ c ∷ d ∷ cs) (k ∷ ks)) (ap (λ n. Variable n) code ∙ token_kind _ p t h) (digits (between 97 122 b low) (between 49 57 c e) (between 48 57 d f) s)
-    two_digits c d cs true false e f h s = absurd (fault_clash _ _ h)
-    two_digits c d cs false y e f h s = absurd (fault_clash _ _ h)
+    two_digits c d cs true false e f h s = absurd (cc)
+    two_digits c d cs false y e f h s = absurd (cc)
 
     letter_spelled : (n : ℕ) (bs : List ℕ) → token_at p 2 (variable b (number (take n bs))) ≡ Ok (Some t) → Spelled (drop n bs) ks → Spelled (b ∷ bs) (t.kind ∷ ks)
     letter_spelled zero bs h s =
@@ -193,11 +181,11 @@ module _ (p b : ℕ) (t : Token) (ks : List Kind) where
     letter_spelled (suc (suc n)) (c ∷ []) h s = one_digit c [] (is_ascii_digit c) refl h s
     letter_spelled (suc (suc zero)) (c ∷ d ∷ cs) h s = two_digits c d cs (is_in_range 49 57 c) (is_ascii_digit d) refl refl h s
     letter_spelled (suc (suc (suc n))) (c ∷ d ∷ []) h s = two_digits c d [] (is_in_range 49 57 c) (is_ascii_digit d) refl refl h s
-    letter_spelled (suc (suc (suc n))) (c ∷ d ∷ e ∷ es) h s = absurd (fault_clash _ _ h)
+    letter_spelled (suc (suc (suc n))) (c ∷ d ∷ e ∷ es) h s = absurd (cc)
 
 module _ (p : ℕ) (t : Token) (ks : List Kind) where
   pub spelled_some : (bs : List ℕ) → cut_at p bs ≡ Ok (Some t) → Spelled (past bs) ks → Spelled bs (t.kind ∷ ks)
-  spelled_some [] h s = absurd (none_clash t h)
+  spelled_some [] h s = absurd (cc)
   spelled_some (b ∷ bs) h s =
       ⊎_elim
       (λ e. subst (λ x. Spelled (x ∷ bs) (t.kind ∷ ks)) (sym (eqb-true b 32 e)) (space (spelled_some bs (sym (blank_cut p b bs e) ∙ h) (subst (λ l. Spelled l ks) (blank_past p b bs e) s))))

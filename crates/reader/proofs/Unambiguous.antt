@@ -1,23 +1,20 @@
 -- A text is written in one way only.
 use Rattle.std.proofs.Common.{◌≡◌, ℕ, ◌≤◌, List, [], ◌∷◌, ◌++◌, length, sym, refl, ap, ◌∙◌, ap₂, append_assoc, append-nil, arith}
 use Rattle.std.proofs.lemmas.List.{length_push, same_from_push}
-use Rattle.sheet.proofs.Nodes.{clash}
 use Rattle.reader.specs.declared.token.Kind.{Kind}
-use Rattle.reader.specs.declared.token.Kind.TheVariants.{Open, Close}
+use Rattle.reader.specs.declared.token.Kind.TheVariants.{Close}
 use Rattle.reader.specs.declared.reader.Sign.{Sign}
 use Rattle.reader.specs.declared.reader.Sign.TheVariants as sign
-use Rattle.reader.specs.Reading.{is_close}
 use Rattle.reader.specs.Grammar.{Tree, Parts, leaf, list, two, more, sign_kind, tokens, all_tokens, Spelled, Written}
-use Rattle.reader.proofs.Spelling.{cuts, past, none_clash, token_kind}
-use Rattle.reader.proofs.Complete.{head_of, split, no_close}
+use Rattle.reader.proofs.Spelling.{cuts, past, token_kind}
+use Rattle.reader.proofs.Complete.{head_of, rest_of, split, no_close}
 
 same_spelled : (ks ls : List Kind) (bs : List ℕ) → Spelled bs ks → Spelled bs ls → ks ≡ ls
 same_spelled [] [] bs s r = refl
-same_spelled [] (l ∷ ls) bs s r = absurd (none_clash _ (sym (cuts 0 s) ∙ (cuts 0 r).0))
-same_spelled (k ∷ ks) [] bs s r = absurd (none_clash _ (sym (cuts 0 r) ∙ (cuts 0 s).0))
+same_spelled [] (l ∷ ls) bs s r = absurd (cc (cuts 0 s, (cuts 0 r).0))
+same_spelled (k ∷ ks) [] bs s r = absurd (cc (cuts 0 r, (cuts 0 s).0))
 same_spelled (k ∷ ks) (l ∷ ls) bs s r =
-    let e = sym (cuts 0 s).0 ∙ (cuts 0 r).0 in
-    let first : k ≡ l = token_kind k 0 (record { kind = l; place = 0 }) e in
+    let first : k ≡ l = token_kind k 0 (record { kind = l; place = 0 }) (sym (cuts 0 s).0 ∙ (cuts 0 r).0) in
     ap₂ (λ x xs. x ∷ xs) first (same_spelled ks ls (past bs) (cuts 0 s).1 (cuts 0 r).1)
 
 -- the terms of a list as they come
@@ -58,15 +55,10 @@ all_push : (ts : List Tree) (c : Tree) → AllInj ts → Inj c → AllInj (ts ++
 all_push [] c h i = (i, tt)
 all_push (t ∷ ts) c h i = (h.0, all_push ts c h.1 i)
 
-hd : List Kind → Kind
-hd [] = Open
-hd (k ∷ ks) = k
-
 never_close : (t : Tree) (xs ys zs : List Kind) → Close ∷ xs ≡ (tokens t ++ ys) ++ zs → ⊥
-unfolding hd
 never_close t xs ys zs e =
-    let h : Close ≡ head_of t = ap hd (e ∙ ap (λ l. (l ++ ys) ++ zs) (split t)) in
-    clash (ap is_close h ∙ no_close t)
+    let begins : Close ∷ xs ≡ head_of t ∷ ((rest_of t ++ ys) ++ zs) = e ∙ ap (λ l. (l ++ ys) ++ zs) (split t) in
+    cc (no_close t)
 
 lists_inj : (cs bs : List Tree) → AllInj cs → (xs ys : List Kind) → spell cs ++ Close ∷ xs ≡ spell bs ++ Close ∷ ys → (cs ≡ bs) × (xs ≡ ys)
 lists_inj [] [] h xs ys e = (refl, cc)

@@ -4,3 +4,4 @@ pub mod Reading
 pub mod Grammar
 pub mod Names
 pub mod Exact
+pub mod Steps

@@ -21,12 +21,7 @@ fn blanks(bytes: &[u8]) -> usize
     ensures value { result ≡ blanks bytes.now }
     ensures bound { result ≤ length bytes.now }
 {
-    for (n, b) in bytes.iter().enumerate() {
-        if *b != b' ' {
-            return n;
-        }
-    }
-    bytes.len()
+    bytes.iter().take_while(|b| **b == b' ').count()
 }
 
 // How many digits stand at the front.
@@ -34,12 +29,7 @@ fn digits(bytes: &[u8]) -> usize
     ensures value { result ≡ prefix_len is_ascii_digit bytes.now }
     ensures bound { result ≤ length bytes.now }
 {
-    for (n, b) in bytes.iter().enumerate() {
-        if !b.is_ascii_digit() {
-            return n;
-        }
-    }
-    bytes.len()
+    bytes.iter().take_while(|b| b.is_ascii_digit()).count()
 }
 
 // How many bytes the token at the front takes: a letter with all digits behind it, or one byte.
@@ -69,6 +59,7 @@ fn number(digits: &[u8]) -> Option<u64>
     }
 }
 
+// The kind that one byte is. No TryFrom: that would be of all kinds, and a variable may take three bytes.
 fn sign(byte: u8) -> Option<Kind>
     ensures { result ≡ sign byte }
 {
@@ -81,36 +72,19 @@ fn sign(byte: u8) -> Option<Kind>
     }
 }
 
-fn fault(cause: Cause, place: usize) -> Fault
-    ensures { row result ≡ by_cutter (number_of cause) place }
-{
-    Fault {
-        cause,
-        place,
-        layer: Layer::Cutter,
-    }
-}
-
 // What the bytes that were cut at `place` are.
 fn judge(piece: &[u8], place: usize) -> Result<Option<Token>, Fault>
     ensures { told result ≡ judge place piece.now }
 {
-    match piece {
-        [] => Ok(None),
+    let kind = match piece {
+        [] => return Ok(None),
         [letter @ b'a'..=b'z', behind @ ..] => {
-            let Some(n) = number(behind) else {
-                return Err(fault(Cause::BadNumber, place));
-            };
-            let kind = Kind::Variable(u64::from(*letter - b'a') * 101 + n);
-            Ok(Some(Token { kind, place }))
+            let n = number(behind).ok_or(Layer::Cutter.fault(Cause::BadNumber, place))?;
+            Kind::Variable(u64::from(*letter - b'a') * 101 + n)
         }
-        [byte, ..] => {
-            let Some(kind) = sign(*byte) else {
-                return Err(fault(Cause::NoToken, place));
-            };
-            Ok(Some(Token { kind, place }))
-        }
-    }
+        [byte, ..] => sign(*byte).ok_or(Layer::Cutter.fault(Cause::NoToken, place))?,
+    };
+    Ok(Some(Token { kind, place }))
 }
 
 impl<'a> Cutter<'a> {

@@ -7,21 +7,21 @@ use std::fmt;
 #[derive(Clone, Copy, PartialEq, Eq, Debug)]
 pub enum Cause {
     // A byte starts no token.
-    NoToken,
+    NoToken = 1,
     // A number has a needless leading zero, or three or more digits.
-    BadNumber,
+    BadNumber = 2,
     // The text ends before the term is complete.
-    Unfinished,
+    Unfinished = 3,
     // A token stands where another is due.
-    Misplaced,
+    Misplaced = 4,
     // A seventeenth bracket opens.
-    TooDeep,
+    TooDeep = 5,
     // A list closes with fewer than two terms.
-    TooShort,
+    TooShort = 6,
     // A token follows the term.
-    Trailing,
+    Trailing = 7,
     // A node is new, and 60 are there.
-    Full,
+    Full = 8,
 }
 
 #[derive(Clone, Copy, PartialEq, Eq, Debug)]
@@ -38,21 +38,25 @@ pub struct Fault {
     pub layer: Layer,
 }
 
+impl Layer {
+    // A fault that this layer finds.
+    pub(crate) fn fault(self, cause: Cause, place: usize) -> Fault
+        ensures { result ≡ record { cause = cause; place = place; layer = self } }
+    {
+        Fault {
+            cause,
+            place,
+            layer: self,
+        }
+    }
+}
+
 impl Fault {
     // The number by which users know the fault.
     pub fn number(self) -> u8
         ensures { result ≡ (row self).number }
     {
-        match self.cause {
-            Cause::NoToken => 1,
-            Cause::BadNumber => 2,
-            Cause::Unfinished => 3,
-            Cause::Misplaced => 4,
-            Cause::TooDeep => 5,
-            Cause::TooShort => 6,
-            Cause::Trailing => 7,
-            Cause::Full => 8,
-        }
+        self.cause as u8
     }
 }
 

@@ -11,10 +11,7 @@ pub fn variable(text: &[u8]) -> Option<u64>
     ensures law { Naming text.now result }
 {
     let mut cutter = Cutter::new(text);
-    let Ok(Some(token)) = cutter.next() else {
-        return None;
-    };
-    let Ok(None) = cutter.next() else {
+    let (Ok(Some(token)), Ok(None)) = (cutter.next(), cutter.next()) else {
         return None;
     };
     match token.kind {
