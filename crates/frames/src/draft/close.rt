@@ -9,84 +9,20 @@ use crate::draft::Draft;
 use crate::frame::Frame;
 use crate::order::{bound_of, leq};
 use crate::refusal::Refusal;
-use crate::test::{Test, first_pair, word_of};
-
-// Pairs of elements that a line joins, and each element with itself.
-#[derive(Drop)]
-struct Begun {
-    n: u8,
-    lines: u64,
-}
-
-impl Test for Begun {
-    ghost says = { λ t. begun t.n t.lines };
-
-    fn test(&self, a: u8, b: u8) -> bool {
-        a < self.n && b < self.n && (a == b || leq(self.lines, false, a, b))
-    }
-}
-
-// Pairs that are in the order, or are so by way of k.
-#[derive(Drop)]
-struct Linked {
-    order: u64,
-    k: u8,
-    ghost small: { k < 8 },
-}
-
-impl Test for Linked {
-    ghost says = { λ t. linked t.order t.k };
-
-    fn test(&self, a: u8, b: u8) -> bool {
-        leq(self.order, false, a, b)
-            || (leq(self.order, false, a, self.k) && leq(self.order, false, self.k, b))
-    }
-}
+use crate::test::{first_pair, word_of};
 
 // The order that the lines make.
 fn closure_of(n: u8, lines: u64) -> u64
     requires { n ≤ 8 }
     ensures { result ≡ closure n lines }
 {
-    let mut order = word_of(&Begun { n, lines });
+    let mut order = word_of(|a, b| a < n && b < n && (a == b || leq(lines, false, a, b)));
     for k in 0..n {
-        order = word_of(&Linked { order, k });
+        order = word_of(|a, b| {
+            leq(order, false, a, b) || (leq(order, false, a, k) && leq(order, false, k, b))
+        });
     }
     order
-}
-
-// Pairs with the smaller number first that are below each other.
-#[derive(Drop)]
-struct Cyclic {
-    n: u8,
-    order: u64,
-}
-
-impl Test for Cyclic {
-    ghost says = { λ t. rising t.n (cyclic t.order) };
-
-    fn test(&self, a: u8, b: u8) -> bool {
-        a < b && b < self.n && leq(self.order, false, a, b) && leq(self.order, false, b, a)
-    }
-}
-
-// Pairs with the smaller number first that lack a join or a meet.
-#[derive(Drop)]
-struct Gap {
-    n: u8,
-    order: u64,
-    ghost few: { n ≤ 8 },
-}
-
-impl Test for Gap {
-    ghost says = { λ t. rising t.n (gap t.n t.order) };
-
-    fn test(&self, a: u8, b: u8) -> bool {
-        a < b
-            && b < self.n
-            && !(bound_of(self.n, self.order, true, a, b).is_some()
-                && bound_of(self.n, self.order, false, a, b).is_some())
-    }
 }
 
 // Why an order is no lattice.
@@ -94,10 +30,18 @@ fn amiss(n: u8, order: u64) -> Option<Refusal>
     requires { n ≤ 8 }
     ensures { result ≡ amiss n order }
 {
-    if let Some((a, b)) = first_pair(&Cyclic { n, order }) {
+    let cycle = first_pair(|a, b| {
+        a < b && b < n && leq(order, false, a, b) && leq(order, false, b, a)
+    });
+    if let Some((a, b)) = cycle {
         return Some(Refusal::Cycle(a, b));
     }
-    let (a, b) = first_pair(&Gap { n, order })?;
+    let (a, b) = first_pair(|a, b| {
+        a < b
+            && b < n
+            && !(bound_of(n, order, true, a, b).is_some()
+                && bound_of(n, order, false, a, b).is_some())
+    })?;
     if bound_of(n, order, true, a, b).is_some() {
         Some(Refusal::NoMeet(a, b))
     } else {
