@@ -1,5 +1,7 @@
 -- The bits of words.
-use Rattle.std.proofs.Common.{◌≡◌, ℕ, zero, suc, ◌+◌, ◌-◌, ◌*◌, ◌/◌, ◌%◌, ◌^◌, ◌<◌, ◌≤◌, max, Bool, true, false, cond, ◌||◌, eqb, ◌⊎◌, Decides, sym, refl, ap, ◌∙◌, inl, inr, eq-or-lt_of_le, add-one, arith}
+use Rattle.std.proofs.Common.{◌≡◌, ℕ, zero, suc, ◌+◌, ◌-◌, ◌*◌, ◌/◌, ◌%◌, ◌^◌, ◌<◌, ◌≤◌, max, Bool, true, false, cond, ◌||◌, eqb, Some, None, Option, ◌⊎◌, Decides, sym, refl, ap, ◌∙◌, inl, inr, eq-or-lt_of_le, add-one, arith}
+use Rattle.std.specs.Option.{SomeIff, unwrap_or}
+use Rattle.std.proofs.Math.Nat.{div-eq_of_lt, pow-le-pow_right}
 use native.Mathlib.Nat.{add-mul-div_left, add-mul-mod_self_left}
 use lib.Bits.{bit_or, or_shifted_r, or_step, or_shr}
 use Rattle.std.proofs.lemmas.Nat.{pow_pos, pow-add, pow_below, one_shl, div-mul-add}
@@ -59,6 +61,14 @@ bit_word (suc k) q p h =
       | inl e ↦ ap (bit (word_below (suc k) p)) e ∙ top_bit (word_below k p) k (p k) (word_lt k p) ∙ ap p (sym e)
       | inr lt ↦ low_bit (word_below k p) q k (p k) lt ∙ bit_word k q p lt
     ]
+
+-- the bit at a place that may be past the last one, from what a shift and a default gave
+pub bit_read : (w k x : ℕ) (o : Option ℕ) → w < 2 ^ 64 → SomeIff o (k < 64) (w / 2 ^ k) → x ≡ unwrap_or o 0 → eqb (x % 2) 1 ≡ bit w k
+bit_read w k x (Some v) h shifted e = ap (λ y. eqb (y % 2) 1) (e ∙ shifted.1)
+bit_read w k x None h past e =
+    let past_end : 64 ≤ k = omega arith in
+    let long : 2 ^ 64 ≤ 2 ^ k = pow-le-pow_right {n = 2} (omega arith) {i = 64} past_end in
+    ap (λ y. eqb (y % 2) 1) (e ∙ sym (div-eq_of_lt (omega arith)))
 
 no_bit : (q : ℕ) → bit 0 q ≡ false
 no_bit q = top_bit 0 q false (pow_pos q)

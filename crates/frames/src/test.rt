@@ -1,10 +1,10 @@
 // Tests of pairs of numbers below 8. The pair (a, b) has the place 8a + b, so that places rise by a, and then by b.
 ghost use Rattle.std.specs.Prelude.{◌≡◌, ℕ, Bool};
-ghost use Rattle.frames.specs.Tests.{first_pair, word, TakesPairs, Says};
+ghost use Rattle.frames.specs.Tests.{first_pair, word, Says};
 
 // The first pair that passes.
 pub(crate) fn first_pair<F: Fn(u8, u8) -> bool>(test: F) -> Option<(u8, u8)>
-    requires { TakesPairs (F.pre test) }
+    requires { F.IsAlwaysCallable test }
     ensures { (says : ℕ → ℕ → Bool) → Says (F.post test) says → result ≡ first_pair says }
 {
     for q in 0..64u8 {
@@ -17,7 +17,7 @@ pub(crate) fn first_pair<F: Fn(u8, u8) -> bool>(test: F) -> Option<(u8, u8)>
 
 // The word with the bits of the pairs that pass.
 pub(crate) fn word_of<F: Fn(u8, u8) -> bool>(test: F) -> u64
-    requires { TakesPairs (F.pre test) }
+    requires { F.IsAlwaysCallable test }
     ensures { (says : ℕ → ℕ → Bool) → Says (F.post test) says → result ≡ word says }
 {
     let mut word: u64 = 0;

@@ -1,51 +1,52 @@
 // Closing a draft.
-ghost use Rattle.std.specs.Prelude.{◌≡◌, ◌<◌, ◌≤◌, Ok, Err};
-ghost use Rattle.frames.specs.Closing.{begun, linked, closure, cyclic, gap, amiss, closing};
-ghost use Rattle.frames.specs.Tests.{rising};
+ghost use Rattle.std.specs.Prelude.{◌≡◌, Ok, Err};
+ghost use Rattle.frames.specs.Closing.{closure, amiss, closing};
 ghost use Rattle.frames.specs.Laws.{Drawn, Reason};
 ghost use Rattle.frames.specs.View.{draft_of, frame_of, closed_of};
 
 use crate::draft::Draft;
 use crate::frame::Frame;
-use crate::order::{bound_of, leq};
 use crate::refusal::Refusal;
+use crate::relation::Relation;
 use crate::test::{first_pair, word_of};
 
-// The order that the lines make.
-fn closure_of(n: u8, lines: u64) -> u64
-    requires { n ≤ 8 }
-    ensures { result ≡ closure n lines }
-{
-    let mut order = word_of(|a, b| a < n && b < n && (a == b || leq(lines, false, a, b)));
-    for k in 0..n {
-        order = word_of(|a, b| {
-            leq(order, false, a, b) || (leq(order, false, a, k) && leq(order, false, k, b))
-        });
+impl Relation {
+    // The order that the lines make.
+    fn closure(self) -> Relation
+        ensures same_size { result.size ≡ self.size }
+        ensures word { result.word ≡ closure self.size self.word }
+    {
+        let size = self.size;
+        let mut word = word_of(|a, b| a < size && b < size && (a == b || self.leq(false, a, b)));
+        for k in 0..size {
+            let order = Relation { size, word };
+            word = word_of(|a, b| {
+                order.leq(false, a, b) || (order.leq(false, a, k) && order.leq(false, k, b))
+            });
+        }
+        Relation { size, word }
     }
-    order
-}
 
-// Why an order is no lattice.
-fn amiss(n: u8, order: u64) -> Option<Refusal>
-    requires { n ≤ 8 }
-    ensures { result ≡ amiss n order }
-{
-    let cycle = first_pair(|a, b| {
-        a < b && b < n && leq(order, false, a, b) && leq(order, false, b, a)
-    });
-    if let Some((a, b)) = cycle {
-        return Some(Refusal::Cycle(a, b));
-    }
-    let (a, b) = first_pair(|a, b| {
-        a < b
-            && b < n
-            && !(bound_of(n, order, true, a, b).is_some()
-                && bound_of(n, order, false, a, b).is_some())
-    })?;
-    if bound_of(n, order, true, a, b).is_some() {
-        Some(Refusal::NoMeet(a, b))
-    } else {
-        Some(Refusal::NoJoin(a, b))
+    // Why the order is no lattice.
+    fn amiss(self) -> Option<Refusal>
+        ensures { result ≡ amiss self.size self.word }
+    {
+        let cycle = first_pair(|a, b| {
+            a < b && b < self.size && self.leq(false, a, b) && self.leq(false, b, a)
+        });
+        if let Some((a, b)) = cycle {
+            return Some(Refusal::Cycle(a, b));
+        }
+        let (a, b) = first_pair(|a, b| {
+            a < b
+                && b < self.size
+                && !(self.bound(true, a, b).is_some() && self.bound(false, a, b).is_some())
+        })?;
+        if self.bound(true, a, b).is_some() {
+            Some(Refusal::NoMeet(a, b))
+        } else {
+            Some(Refusal::NoJoin(a, b))
+        }
     }
 }
 
@@ -55,13 +56,10 @@ impl Draft {
         ensures does { closed_of result ≡ closing (draft_of self) }
         ensures law { elim result [ Ok f ↦ Drawn (draft_of self) (frame_of f) | Err e ↦ Reason (draft_of self) e.1 ] }
     {
-        let order = closure_of(self.size, self.lines);
-        match amiss(self.size, order) {
+        let order = self.lines.closure();
+        match order.amiss() {
             Some(refusal) => Err((self, refusal)),
-            None => Ok(Frame {
-                size: self.size,
-                order,
-            }),
+            None => Ok(Frame { order }),
         }
     }
 }

@@ -10,6 +10,6 @@ returns-then-b-self c =
     let a = c.args.a in
     let b = c.args.b in
     record {
-      compares = λ p q. Decides-at c.leq.result (le f.order false a b) c.leq.ensures (compares f a b p q);
-      order = λ p q. Decides-at c.leq.result (le f.order false a b) c.leq.ensures (λ e. e, λ e. e);
+      compares = λ p q. Decides-at c.leq.result (le f.order.word false a b) c.leq.ensures (compares f a b p q);
+      order = λ p q. Decides-at c.leq.result (le f.order.word false a b) c.leq.ensures (λ e. e, λ e. e);
     }

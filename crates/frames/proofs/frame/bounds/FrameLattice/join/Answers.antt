@@ -12,5 +12,5 @@ returns c =
     let b = c.args.b in
     record {
       joins = c.bound.ensures;
-      least = λ p q. subst (Supremum (λ x. x < f.size) (Le (frame_of f)) a b) (sym (c.bound.ensures p q)) ((bounded f).suprema a b p q);
+      least = λ p q. subst (Supremum (λ x. x < f.order.size) (Le (frame_of f)) a b) (sym (c.bound.ensures p q)) ((bounded f).suprema a b p q);
     }

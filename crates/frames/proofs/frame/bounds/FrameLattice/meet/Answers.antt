@@ -12,5 +12,5 @@ returns c =
     let b = c.args.b in
     record {
       meets = c.bound.ensures;
-      greatest = λ p q. subst (Infimum (λ x. x < f.size) (Le (frame_of f)) a b) (sym (c.bound.ensures p q)) ((bounded f).infima a b p q);
+      greatest = λ p q. subst (Infimum (λ x. x < f.order.size) (Le (frame_of f)) a b) (sym (c.bound.ensures p q)) ((bounded f).infima a b p q);
     }

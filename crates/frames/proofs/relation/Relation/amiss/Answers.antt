@@ -1,43 +1,35 @@
 use Rattle.std.proofs.Common.{true, false, is_some, Some, None, sym, refl, ap, ◌∙◌, rules}
 use Rattle.frames.specs.Tests.{first_pair, rising}
 use Rattle.frames.specs.Closing.{cyclic, gap}
-use Rattle.frames.specs.Finding.{pair_small}
 use Rattle.frames.proofs.Closing.{amiss_is, amiss_lacking}
-use Rattle.frames.proofs.draft.close.amiss.Goals as goal
+use Rattle.frames.proofs.relation.Relation.amiss.Goals as goal
 
 pub returns-in-Some : goal.returns-in-Some
 returns-in-Some c =
-    let n = c.args.n in
-    let w = c.args.order in
+    let n = c.args.self.size in
+    let w = c.args.self.word in
     amiss_is n w (Some (c.in-Some.a, c.in-Some.b)) (first_pair (rising n (gap n w)))
     (c.in-Some.ensures (rising n (cyclic w)) (λ a b r p q says. search rules)) refl
 
 pub returns-in_err-a : goal.returns-in_err-a
 returns-in_err-a c =
-    let n = c.args.n in
-    let w = c.args.order in
+    let n = c.args.self.size in
+    let w = c.args.self.word in
     c.from_residual.ensures ∙ amiss_is n w None None (c.in_default.ensures (rising n (cyclic w)) (λ a b r p q says. search rules))
     (c.in_err-a.ensures (rising n (gap n w)) (λ a b r p q says. search rules))
 
-pub bound_of-requires : goal.bound_of-requires
-bound_of-requires c =
-    let n = c.args.n in
-    let p = rising n (gap n c.args.order) in
-    let small = pair_small p (c.in_ok-a.a, c.in_ok-a.b) (sym (c.in_ok-a.ensures p (λ a b r p q says. search rules))) in
-    record { few = c.requires; left = small.0; right = small.1 }
-
 pub returns-then-is_some : goal.returns-then-is_some
 returns-then-is_some c =
-    let n = c.args.n in
-    let w = c.args.order in
+    let n = c.args.self.size in
+    let w = c.args.self.word in
     amiss_lacking n w c.in_ok-a.a c.in_ok-a.b true (c.in_default.ensures (rising n (cyclic w)) (λ a b r p q says. search rules))
     (c.in_ok-a.ensures (rising n (gap n w)) (λ a b r p q says. search rules))
-    (sym (c.is_some.ensures ∙ ap is_some c.bound_of.ensures) ∙ c.if-is_some.true)
+    (sym (c.is_some.ensures ∙ ap is_some c.bound.ensures) ∙ c.if-is_some.true)
 
 pub returns-else-is_some : goal.returns-else-is_some
 returns-else-is_some c =
-    let n = c.args.n in
-    let w = c.args.order in
+    let n = c.args.self.size in
+    let w = c.args.self.word in
     amiss_lacking n w c.in_ok-a.a c.in_ok-a.b false (c.in_default.ensures (rising n (cyclic w)) (λ a b r p q says. search rules))
     (c.in_ok-a.ensures (rising n (gap n w)) (λ a b r p q says. search rules))
-    (sym (c.is_some.ensures ∙ ap is_some c.bound_of.ensures) ∙ c.if-is_some.false)
+    (sym (c.is_some.ensures ∙ ap is_some c.bound.ensures) ∙ c.if-is_some.false)
