@@ -10,6 +10,7 @@ use Rattle.lattice.specs.Words.{sets_laws}
 use Rattle.divisors.specs.declared.divisors.Divisors as struct
 use Rattle.divisors.specs.Divisors.{divisors}
 use Rattle.divisors.specs.Divisibility.{divisors_bounded, decides_divides}
+use Rattle.frames.specs.View.{frame_of}
 use Rattle.frames.specs.Framing.{bounded}
 use Rattle.desk.specs.declared.chosen.Chosen.{Chosen}
 use Rattle.desk.specs.declared.chosen.Chosen.TheVariants.{Sets, Divisors, Frame}
@@ -24,7 +25,7 @@ chosen_laws (Frame f) = laws_of_bounded (bounded f)
 pub decides : (k : Chosen) (x : ℕ) → Decides ((site k).admits x) ((meaning k).admitted x)
 decides Sets x = Decides-ltb x (2 ^ 64)
 decides (Divisors d) x = decides_divides x d.n d.positive
-decides (Frame f) x = Decides-ltb x f.size
+decides (Frame f) x = Decides-ltb x (frame_of f).size
 
 module _ (k : Chosen) (d : struct.Divisors) (is : k ≡ Divisors d) where
   -- a divisor is its own low 32 bits
