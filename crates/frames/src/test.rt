@@ -7,12 +7,8 @@ pub(crate) fn first_pair<F: Fn(u8, u8) -> bool>(test: F) -> Option<(u8, u8)>
     requires { F.IsAlwaysCallable test }
     ensures { (says : ℕ → ℕ → Bool) → Says (F.post test) says → result ≡ first_pair says }
 {
-    for q in 0..64u8 {
-        if test(q / 8, q % 8) {
-            return Some((q / 8, q % 8));
-        }
-    }
-    None
+    let place = (0..64u8).find(|&q| test(q / 8, q % 8));
+    place.map(|q| (q / 8, q % 8))
 }
 
 // The word with the bits of the pairs that pass.

@@ -1,22 +1,13 @@
-use Rattle.std.proofs.Common.{◌≡◌, ◌/◌, ◌%◌, sym, ap, ◌∙◌, arith}
+use Rattle.std.proofs.Common.{◌≡◌, ◌/◌, ◌%◌, ap, ◌∙◌, rules, arith}
 use Rattle.frames.specs.Tests.{first, at, pair_at}
-use Rattle.frames.specs.Finding.{first_start, first_more, first_hit}
+use Rattle.frames.proofs.Searches.{first_of_find}
 use Rattle.frames.proofs.test.first_pair.Goals as goal
 
-pub loop-q-init : goal.loop-q-init
-loop-q-init g c = λ says h. first_start (at says)
-
-pub returns-then-test : goal.returns-then-test
-returns-then-test g c = λ says h.
-    let here = h (c.loop-q.q / 8) (c.loop-q.q % 8) c.test.result (omega arith) (omega arith) c.test.ensures in
-    ap pair_at (sym (first_hit 64 c.loop-q.q (at says) c.loop-q-test.true (c.loop-q.invariant says h) (sym here ∙ c.if-test.true)))
-
-pub loop-q-preserved : goal.loop-q-preserved
-loop-q-preserved g c = λ says h.
-    let here = h (c.loop-q.q / 8) (c.loop-q.q % 8) c.test.result (omega arith) (omega arith) c.test.ensures in
-    first_more c.loop-q.q (at says) (c.loop-q.invariant says h) (sym here ∙ c.if-test.false)
-
 pub returns : goal.returns
-returns g c = λ says h.
-    let e : c.loop-q.q ≡ 64 = omega arith in
-    ap pair_at (sym (ap (λ k. first k (at says)) (sym e) ∙ c.loop-q.invariant says h))
+returns g c =
+    λ says h.
+    let e : c.find-place.result ≡ first 64 (at says) =
+    first_of_find 64 (at says) _ _ c.find-place.result c.find-place.ensures.ran
+    (λ x b q k. (search rules, λ lt. h (x / 8) (x % 8) b (omega arith) (omega arith) (search rules))) in
+    let m : c.map.result ≡ pair_at c.find-place.result = search rules in
+    m ∙ ap pair_at e
