@@ -1,5 +1,7 @@
 -- The bits of words.
 use Rattle.std.proofs.Common.{◌≡◌, ℕ, zero, suc, ◌+◌, ◌-◌, ◌*◌, ◌/◌, ◌%◌, ◌^◌, ◌<◌, ◌≤◌, max, Bool, true, false, cond, ◌||◌, eqb, Some, None, Option, ◌⊎◌, Decides, sym, refl, ap, ◌∙◌, inl, inr, eq-or-lt_of_le, add-one, arith}
+use Rattle.std.specs.Int.Bits.{or_zero_r}
+use Rattle.std.specs.Int.{from_bool}
 use Rattle.std.specs.Option.{SomeIff, unwrap_or}
 use Rattle.std.proofs.Math.Nat.{div-eq_of_lt, pow-le-pow_right}
 use native.Mathlib.Nat.{add-mul-div_left, add-mul-mod_self_left}
@@ -27,15 +29,15 @@ pub word_next : (k : ℕ) (p : ℕ → Bool) → word_below (k + 1) p ≡ word_b
 unfolding word_below
 word_next k p = ap (λ n. word_below n p) (add-one k)
 
--- a turn of the loop that makes a word, where the test t of k passed, and where it failed
-pub word_with : (k : ℕ) (p : ℕ → Bool) (w v : ℕ) (t : Bool) → k < 64 → w ≡ word_below k p → t ≡ p k → t ≡ true → v ≡ bit_or w ((1 * 2 ^ k) % 2 ^ 64) → v ≡ word_below (k + 1) p
-word_with k p w v t h e test passed is =
+-- a turn of the fold that makes a word, where the test of k answers t
+pub word_or : (k : ℕ) (p : ℕ → Bool) (w v : ℕ) (t : Bool) → k < 64 → w ≡ word_below k p → t ≡ p k → v ≡ bit_or w ((from_bool t * 2 ^ k) % 2 ^ 64) → v ≡ word_below (k + 1) p
+word_or k p w v true h e test is =
     let lt : w < 2 ^ k = omega (arith, word_lt k p) in
     let one : 1 * 2 ^ k ≡ 2 ^ k = omega arith in
-    is ∙ ap (bit_or w) (one_shl k 64 h ∙ sym one) ∙ or_shifted_r 1 k w lt ∙ omega (arith, word_next k p, ap (λ b. cond b (2 ^ k) 0) (sym test ∙ passed))
-
-pub word_without : (k : ℕ) (p : ℕ → Bool) (w v : ℕ) (t : Bool) → w ≡ word_below k p → t ≡ p k → t ≡ false → v ≡ w → v ≡ word_below (k + 1) p
-word_without k p w v t e test failed is = omega (arith, word_next k p, ap (λ b. cond b (2 ^ k) 0) (sym test ∙ failed))
+    is ∙ ap (bit_or w) (one_shl k 64 h ∙ sym one) ∙ or_shifted_r 1 k w lt ∙ omega (arith, word_next k p, ap (λ b. cond b (2 ^ k) 0) (sym test))
+word_or k p w v false h e test is =
+    let none : (0 * 2 ^ k) % 2 ^ 64 ≡ 0 = omega arith in
+    is ∙ ap (bit_or w) none ∙ or_zero_r w ∙ omega (arith, word_next k p, ap (λ b. cond b (2 ^ k) 0) (sym test))
 
 same_bit : (w t q : ℕ) → bit (w + 2 ^ q * (2 * t)) q ≡ bit w q
 same_bit w t q = ap (λ x. eqb x 1) (ap (λ x. x % 2) (add-mul-div_left w (2 * t) (pow_pos q)) ∙ add-mul-mod_self_left (w / 2 ^ q) 2 t)

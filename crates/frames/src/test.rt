@@ -7,8 +7,9 @@ pub(crate) fn first_pair<F: Fn(u8, u8) -> bool>(test: F) -> Option<(u8, u8)>
     requires { F.IsAlwaysCallable test }
     ensures { (says : ℕ → ℕ → Bool) → Says (F.post test) says → result ≡ first_pair says }
 {
-    let place = (0..64u8).find(|&q| test(q / 8, q % 8));
-    place.map(|q| (q / 8, q % 8))
+    (0..64u8)
+        .find(|&q| test(q / 8, q % 8))
+        .map(|q| (q / 8, q % 8))
 }
 
 // The word with the bits of the pairs that pass.
@@ -16,11 +17,5 @@ pub(crate) fn word_of<F: Fn(u8, u8) -> bool>(test: F) -> u64
     requires { F.IsAlwaysCallable test }
     ensures { (says : ℕ → ℕ → Bool) → Says (F.post test) says → result ≡ word says }
 {
-    let mut word: u64 = 0;
-    for q in 0..64u8 {
-        if test(q / 8, q % 8) {
-            word |= 1u64 << q;
-        }
-    }
-    word
+    (0..64u8).fold(0, |word, q| word | u64::from(test(q / 8, q % 8)) << q)
 }

@@ -1,6 +1,7 @@
 // Closing a draft.
 ghost use Rattle.std.specs.Prelude.{◌≡◌, Ok, Err};
-ghost use Rattle.frames.specs.Closing.{closure, amiss, closing};
+ghost use Rattle.frames.specs.Tests.{word};
+ghost use Rattle.frames.specs.Closing.{begun, linked, closure, amiss, closing};
 ghost use Rattle.frames.specs.Laws.{Drawn, Reason};
 ghost use Rattle.frames.specs.View.{draft_of, frame_of, closed_of};
 
@@ -11,20 +12,34 @@ use crate::relation::Relation;
 use crate::test::{first_pair, word_of};
 
 impl Relation {
+    // The lines, and each element below itself.
+    fn begun(self) -> Relation
+        ensures same_size { result.size ≡ self.size }
+        ensures word { result.word ≡ word (begun self.size self.word) }
+    {
+        let size = self.size;
+        let word = word_of(|a, b| a < size && b < size && (a == b || self.leq(false, a, b)));
+        Relation { size, word }
+    }
+
+    // The relation with what goes by way of k.
+    fn linked(self, k: u8) -> Relation
+        ensures same_size { result.size ≡ self.size }
+        ensures word { result.word ≡ word (linked self.word k) }
+    {
+        let size = self.size;
+        let word = word_of(|a, b| {
+            self.leq(false, a, b) || (self.leq(false, a, k) && self.leq(false, k, b))
+        });
+        Relation { size, word }
+    }
+
     // The order that the lines make.
     fn closure(self) -> Relation
         ensures same_size { result.size ≡ self.size }
         ensures word { result.word ≡ closure self.size self.word }
     {
-        let size = self.size;
-        let mut word = word_of(|a, b| a < size && b < size && (a == b || self.leq(false, a, b)));
-        for k in 0..size {
-            let order = Relation { size, word };
-            word = word_of(|a, b| {
-                order.leq(false, a, b) || (order.leq(false, a, k) && order.leq(false, k, b))
-            });
-        }
-        Relation { size, word }
+        (0..self.size).fold(self.begun(), Relation::linked)
     }
 
     // Why the order is no lattice.

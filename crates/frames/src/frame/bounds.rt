@@ -1,5 +1,5 @@
 // Frames as lattices.
-ghost use Rattle.std.specs.Prelude.{◌≡◌, ◌<◌, Decides, nat_lt};
+ghost use Rattle.std.specs.Prelude.{◌≡◌, Decides, nat_lt};
 ghost use Rattle.lattice.specs.Answers.{Meets, Joins, Compares};
 ghost use Rattle.frames.specs.Order.{bound_in, frame, Greatest, Least, Orders};
 ghost use Rattle.frames.specs.View.{frame_of};
@@ -19,11 +19,8 @@ impl Frame {
 
     // The meet of two elements, or their join where `up`.
     fn bound(&self, up: bool, a: u8, b: u8) -> u8
-        ensures { a < self.now.order.size → b < self.now.order.size → result ≡ bound_in self.now.order.size self.now.order.word up a b }
+        ensures { result ≡ bound_in self.now.order.size self.now.order.word up a b }
     {
-        if a >= self.order.size || b >= self.order.size {
-            return 0;
-        }
         self.order.bound(up, a, b).unwrap_or(0)
     }
 }

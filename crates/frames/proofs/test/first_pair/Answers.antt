@@ -6,8 +6,8 @@ use Rattle.frames.proofs.test.first_pair.Goals as goal
 pub returns : goal.returns
 returns g c =
     λ says h.
-    let e : c.find-place.result ≡ first 64 (at says) =
-    first_of_find 64 (at says) _ _ c.find-place.result c.find-place.ensures.ran
+    let e : c.find.result ≡ first 64 (at says) =
+    first_of_find 64 (at says) _ _ c.find.result c.find.ensures.ran
     (λ x b q k. (search rules, λ lt. h (x / 8) (x % 8) b (omega arith) (omega arith) (search rules))) in
-    let m : c.map.result ≡ pair_at c.find-place.result = search rules in
+    let m : c.map.result ≡ pair_at c.find.result = search rules in
     m ∙ ap pair_at e
