@@ -1,7 +1,7 @@
 // Closing a draft.
 ghost use Rattle.std.specs.Prelude.{◌≡◌, Ok, Err};
-ghost use Rattle.frames.specs.Tests.{word};
-ghost use Rattle.frames.specs.Closing.{begun, linked, closure, amiss, closing};
+ghost use Rattle.frames.specs.Tests.{first_pair, word, rising};
+ghost use Rattle.frames.specs.Closing.{begun, linked, closure, cyclic, gap, amiss, closing};
 ghost use Rattle.frames.specs.Laws.{Drawn, Reason};
 ghost use Rattle.frames.specs.View.{draft_of, frame_of, closed_of};
 
@@ -42,21 +42,34 @@ impl Relation {
         (0..self.size).fold(self.begun(), Relation::linked)
     }
 
+    // The first two elements that are below each other.
+    fn first_cycle(self) -> Option<(u8, u8)>
+        ensures { result ≡ first_pair (rising self.size (cyclic self.word)) }
+    {
+        first_pair(|a, b| {
+            a < b && b < self.size && self.leq(false, a, b) && self.leq(false, b, a)
+        })
+    }
+
+    // The first two elements that lack a join or a meet.
+    fn first_gap(self) -> Option<(u8, u8)>
+        ensures { result ≡ first_pair (rising self.size (gap self.size self.word)) }
+    {
+        first_pair(|a, b| {
+            a < b
+                && b < self.size
+                && !(self.bound(true, a, b).is_some() && self.bound(false, a, b).is_some())
+        })
+    }
+
     // Why the order is no lattice.
     fn amiss(self) -> Option<Refusal>
         ensures { result ≡ amiss self.size self.word }
     {
-        let cycle = first_pair(|a, b| {
-            a < b && b < self.size && self.leq(false, a, b) && self.leq(false, b, a)
-        });
-        if let Some((a, b)) = cycle {
+        if let Some((a, b)) = self.first_cycle() {
             return Some(Refusal::Cycle(a, b));
         }
-        let (a, b) = first_pair(|a, b| {
-            a < b
-                && b < self.size
-                && !(self.bound(true, a, b).is_some() && self.bound(false, a, b).is_some())
-        })?;
+        let (a, b) = self.first_gap()?;
         if self.bound(true, a, b).is_some() {
             Some(Refusal::NoMeet(a, b))
         } else {
