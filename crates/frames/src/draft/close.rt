@@ -63,6 +63,7 @@ impl Relation {
     }
 
     // Why the order is no lattice.
+    #[tactic(auto, unfolding(crate::specs::Closing::amiss))]
     fn amiss(self) -> Option<Refusal>
         ensures { result ≡ amiss self.size self.word }
     {
