@@ -14,6 +14,7 @@ pub(crate) struct Relation {
 
 impl Relation {
     // Whether a is below b.
+    #[tactic(auto, using(crate::proofs::Words::bit_read), unfolding(crate::specs::Order::le))]
     pub(crate) fn leq(self, up: bool, a: u8, b: u8) -> bool
         ensures { result ≡ le self.word up a b }
     {

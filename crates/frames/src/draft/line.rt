@@ -14,6 +14,7 @@ const MOST: u64 = 8;
 
 impl Draft {
     // A draft of n elements with no lines.
+    #[tactic(auto, using(crate::proofs::Words::le_none))]
     pub fn begin(n: u64) -> Result<Draft, Refusal>
         ensures does { begun_of result ≡ beginning n }
         ensures law { IfOk result (λ d. (a b : ℕ) → Line (draft_of d) a b → ⊥) }

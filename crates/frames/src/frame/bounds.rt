@@ -53,6 +53,7 @@ impl Lattice for Frame {
         self.bound(true, a, b)
     }
 
+    #[tactic(auto, using(crate::specs::Framing::compares))]
     fn below(&self, a: u8, b: u8) -> bool
         ensures compares { Compares (frame (frame_of self.now)) a b result }
         ensures order { Orders (frame_of self.now) a b result }
