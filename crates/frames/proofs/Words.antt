@@ -6,7 +6,7 @@ use Rattle.std.specs.Option.{SomeIff, unwrap_or}
 use Rattle.std.proofs.Math.Nat.{div-eq_of_lt, pow-le-pow_right}
 use native.Mathlib.Nat.{add-mul-div_left, add-mul-mod_self_left}
 use lib.Bits.{bit_or, or_shifted_r}
-use Rattle.std.proofs.lemmas.Nat.{pow_pos, pow-add, pow_below, one_shl, div-mul-add}
+use Rattle.std.proofs.lemmas.Nat.{pow_pos, pow-add, one_shl, div-mul-add}
 use Rattle.std.proofs.lemmas.Bool.{both_ways, cases_eq}
 use Rattle.std.proofs.lemmas.Nat.Bits.{bit_at-zero, bit_at_or, bit_at-pow_same, bit_at-pow_other}
 use Rattle.std.proofs.lemmas.Bool.Decides.{nat_tests, Decides-at, Decides-or, Decides-like}

@@ -81,6 +81,7 @@ impl Relation {
 
 impl Draft {
     // The frame in which a is below b where a chain of lines leads from a to b; or the draft as it was, if that is no lattice.
+    #[tactic(auto, using(crate::proofs::Closing::reason_of))]
     pub fn close(self) -> Result<Frame, (Draft, Refusal)>
         ensures does { closed_of result ≡ closing (draft_of self) }
         ensures law { elim result [ Ok f ↦ Drawn (draft_of self) (frame_of f) | Err e ↦ Reason (draft_of self) e.1 ] }
