@@ -42,7 +42,7 @@ impl Draft {
         ensures does { (draft_of self.new, told result) ≡ lining (draft_of self.old) a b }
         ensures law { OnOk result (Lined (draft_of self.old) a b (draft_of self.new)) }
     {
-        let size = self.lines.size as u64;
+        let size = u64::from(self.lines.size);
         if a >= size || b >= size {
             return Err(Refusal::Element);
         }
