@@ -1,6 +1,6 @@
 // Relations of numbers below 8, each in one word: the lines of a draft, and the order of a frame.
-// Each method looks at the relation from below, or from above where `up`: then what it says of meets it says of joins.
-ghost use Rattle.std.specs.Prelude.{◌≡◌, ◌<◌, ◌≤◌};
+// A method with `up` looks at the relation from below, or from above where `up`: then what it says of meets it says of joins.
+ghost use Rattle.std.specs.Prelude.{◌≡◌, ◌<◌, ◌≤◌, false};
 ghost use Rattle.frames.specs.Order.{le, follows, best, bound};
 
 // The elements are the numbers below `size`, and the bit of `word` worth 2^(8a + b) says that a is below b.
@@ -15,27 +15,34 @@ pub(crate) struct Relation {
 impl Relation {
     // Whether a is below b.
     #[tactic(auto, using(crate::proofs::Words::bit_read), unfolding(crate::specs::Order::le))]
-    pub(crate) fn leq(self, up: bool, a: u8, b: u8) -> bool
+    pub(crate) fn leq(self, a: u8, b: u8) -> bool
+        ensures { result ≡ le self.word false a b }
+    {
+        let place = 8 * u32::from(a) + u32::from(b);
+        self.word.checked_shr(place).unwrap_or(0) % 2 == 1
+    }
+
+    // Whether a is below b, or above it where `up`.
+    #[tactic(auto, unfolding(crate::specs::Order::le))]
+    fn faces(self, up: bool, a: u8, b: u8) -> bool
         ensures { result ≡ le self.word up a b }
     {
-        let (a, b) = (u32::from(a), u32::from(b));
-        let place = if up { 8 * b + a } else { 8 * a + b };
-        self.word.checked_shr(place).unwrap_or(0) % 2 == 1
+        if up { self.leq(b, a) } else { self.leq(a, b) }
     }
 
     // Whether d, if it is below a and b, is below c.
     fn stays_below(self, up: bool, a: u8, b: u8, c: u8, d: u8) -> bool
         ensures { result ≡ follows self.word up a b c d }
     {
-        !self.leq(up, d, a) || !self.leq(up, d, b) || self.leq(up, d, c)
+        !self.faces(up, d, a) || !self.faces(up, d, b) || self.faces(up, d, c)
     }
 
     // Whether c is the greatest lower bound of a and b.
     fn is_best(self, up: bool, a: u8, b: u8, c: u8) -> bool
         ensures { result ≡ best self.size self.word up a b c }
     {
-        self.leq(up, c, a)
-            && self.leq(up, c, b)
+        self.faces(up, c, a)
+            && self.faces(up, c, b)
             && (0..self.size).all(|d| self.stays_below(up, a, b, c, d))
     }
 

@@ -18,7 +18,7 @@ impl Relation {
         ensures word { result.word ≡ word (begun self.size self.word) }
     {
         let size = self.size;
-        let word = word_of(|a, b| a < size && b < size && (a == b || self.leq(false, a, b)));
+        let word = word_of(|a, b| a < size && b < size && (a == b || self.leq(a, b)));
         Relation { size, word }
     }
 
@@ -28,9 +28,7 @@ impl Relation {
         ensures word { result.word ≡ word (linked self.word k) }
     {
         let size = self.size;
-        let word = word_of(|a, b| {
-            self.leq(false, a, b) || (self.leq(false, a, k) && self.leq(false, k, b))
-        });
+        let word = word_of(|a, b| self.leq(a, b) || (self.leq(a, k) && self.leq(k, b)));
         Relation { size, word }
     }
 
@@ -46,9 +44,7 @@ impl Relation {
     fn first_cycle(self) -> Option<(u8, u8)>
         ensures { result ≡ first_pair (rising self.size (cyclic self.word)) }
     {
-        first_pair(|a, b| {
-            a < b && b < self.size && self.leq(false, a, b) && self.leq(false, b, a)
-        })
+        first_pair(|a, b| a < b && b < self.size && self.leq(a, b) && self.leq(b, a))
     }
 
     // The first two elements that lack a join or a meet.
