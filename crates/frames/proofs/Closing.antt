@@ -1,5 +1,5 @@
 -- What is found amiss with an order, in the words of chains.
-use Rattle.std.proofs.Common.{◌≡◌, ℕ, ◌<◌, ◌≤◌, Bool, true, false, cond, ◌&&◌, is_some, Some, None, Ok, Decides, Option, sym, refl, ap, ◌∙◌, subst, ap₂, inl, inr, arith}
+use Rattle.std.proofs.Common.{◌≡◌, ℕ, ◌<◌, ◌≤◌, Bool, true, false, cond, ◌&&◌, is_some, Some, None, Ok, Decides, Option, sym, refl, ap, ◌∙◌, subst, inl, inr, arith}
 use Rattle.std.proofs.lemmas.Bool.{not-true, not-false, cases_order}
 use Rattle.std.proofs.lemmas.Bool.Decides.{Decides-and, not_from_Decides}
 use Rattle.free_lattice.specs.Bounds.{Infimum, Order}
@@ -13,15 +13,6 @@ use Rattle.frames.specs.Laws.{Elem, Chain, stay, then, Cyclic, Met, Joined, Firs
 use Rattle.frames.specs.Finding.{pair_none, pair_found}
 use Rattle.frames.specs.Bounds.{Facing, bound_decides, frame_bounded}
 use Rattle.frames.proofs.Chains.{chains_decided}
-
-pub amiss_is : (n w : ℕ) (o g : Option (ℕ × ℕ)) → o ≡ first_pair (rising n (cyclic w)) → g ≡ first_pair (rising n (gap n w)) → amiss_by n w o g ≡ amiss n w
-unfolding amiss
-amiss_is n w o g e f = ap₂ (amiss_by n w) e f
-
--- where no pair is cyclic, and (a, b) is the first with a gap
-pub amiss_lacking : (n w a b : ℕ) (r : Bool) → None ≡ first_pair (rising n (cyclic w)) → Some (a, b) ≡ first_pair (rising n (gap n w))
-    → is_some (bound n w true a b) ≡ r → Some (cond r (NoMeet a b) (NoJoin a b)) ≡ amiss n w
-amiss_lacking n w a b r e f h = ap (λ x. Some (cond x (NoMeet a b) (NoJoin a b))) (sym h) ∙ amiss_is n w None (Some (a, b)) e f
 
 first_like : {n : ℕ} {P Q P' Q' : ℕ → ℕ → Type 0} (a b : ℕ) → ((x y : ℕ) → x < n → y < n → P x y → P' x y) → (a < n → b < n → Q a b → Q' a b)
     → First n P Q a b → First n P' Q' a b

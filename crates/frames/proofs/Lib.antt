@@ -1,3 +1,4 @@
 pub mod Words
 pub mod Chains
 pub mod Closing
+pub mod Searches

@@ -1,9 +1,14 @@
 -- The bits of words.
-use Rattle.std.proofs.Common.{◌≡◌, ℕ, zero, suc, ◌+◌, ◌-◌, ◌*◌, ◌/◌, ◌%◌, ◌^◌, ◌<◌, ◌≤◌, max, Bool, true, false, cond, ◌||◌, eqb, ◌⊎◌, Decides, sym, refl, ap, ◌∙◌, inl, inr, eq-or-lt_of_le, add-one, arith}
+use Rattle.std.proofs.Common.{◌≡◌, ℕ, zero, suc, ◌+◌, ◌-◌, ◌*◌, ◌/◌, ◌%◌, ◌^◌, ◌<◌, ◌≤◌, max, Bool, true, false, cond, ◌||◌, eqb, Some, None, Option, ◌⊎◌, Decides, sym, refl, ap, ◌∙◌, inl, inr, eq-or-lt_of_le, add-one, arith}
+use Rattle.std.specs.Int.Bits.{or_zero_r}
+use Rattle.std.specs.Int.{from_bool, bit_at}
+use Rattle.std.specs.Option.{SomeIff, unwrap_or}
+use Rattle.std.proofs.Math.Nat.{div-eq_of_lt, pow-le-pow_right}
 use native.Mathlib.Nat.{add-mul-div_left, add-mul-mod_self_left}
-use lib.Bits.{bit_or, or_shifted_r, or_step, or_shr}
-use Rattle.std.proofs.lemmas.Nat.{pow_pos, pow-add, pow_below, one_shl, div-mul-add}
-use Rattle.std.proofs.lemmas.Bool.{both_ways, cases_order}
+use lib.Bits.{bit_or, or_shifted_r}
+use Rattle.std.proofs.lemmas.Nat.{pow_pos, pow-add, one_shl, div-mul-add}
+use Rattle.std.proofs.lemmas.Bool.{both_ways, cases_eq}
+use Rattle.std.proofs.lemmas.Nat.Bits.{bit_at-zero, bit_at_or, bit_at-pow_same, bit_at-pow_other}
 use Rattle.std.proofs.lemmas.Bool.Decides.{nat_tests, Decides-at, Decides-or, Decides-like}
 use Rattle.frames.specs.Tests.{bit, at, word_below, word}
 use Rattle.frames.specs.Order.{le}
@@ -25,15 +30,15 @@ pub word_next : (k : ℕ) (p : ℕ → Bool) → word_below (k + 1) p ≡ word_b
 unfolding word_below
 word_next k p = ap (λ n. word_below n p) (add-one k)
 
--- a turn of the loop that makes a word, where the test t of k passed, and where it failed
-pub word_with : (k : ℕ) (p : ℕ → Bool) (w v : ℕ) (t : Bool) → k < 64 → w ≡ word_below k p → t ≡ p k → t ≡ true → v ≡ bit_or w ((1 * 2 ^ k) % 2 ^ 64) → v ≡ word_below (k + 1) p
-word_with k p w v t h e test passed is =
+-- a turn of the fold that makes a word, where the test of k answers t
+pub word_or : (k : ℕ) (p : ℕ → Bool) (w v : ℕ) (t : Bool) → k < 64 → w ≡ word_below k p → t ≡ p k → v ≡ bit_or w ((from_bool t * 2 ^ k) % 2 ^ 64) → v ≡ word_below (k + 1) p
+word_or k p w v true h e test is =
     let lt : w < 2 ^ k = omega (arith, word_lt k p) in
     let one : 1 * 2 ^ k ≡ 2 ^ k = omega arith in
-    is ∙ ap (bit_or w) (one_shl k 64 h ∙ sym one) ∙ or_shifted_r 1 k w lt ∙ omega (arith, word_next k p, ap (λ b. cond b (2 ^ k) 0) (sym test ∙ passed))
-
-pub word_without : (k : ℕ) (p : ℕ → Bool) (w v : ℕ) (t : Bool) → w ≡ word_below k p → t ≡ p k → t ≡ false → v ≡ w → v ≡ word_below (k + 1) p
-word_without k p w v t e test failed is = omega (arith, word_next k p, ap (λ b. cond b (2 ^ k) 0) (sym test ∙ failed))
+    is ∙ ap (bit_or w) (one_shl k 64 h ∙ sym one) ∙ or_shifted_r 1 k w lt ∙ omega (arith, word_next k p, ap (λ b. cond b (2 ^ k) 0) (sym test))
+word_or k p w v false h e test is =
+    let none : (0 * 2 ^ k) % 2 ^ 64 ≡ 0 = omega arith in
+    is ∙ ap (bit_or w) none ∙ or_zero_r w ∙ omega (arith, word_next k p, ap (λ b. cond b (2 ^ k) 0) (sym test))
 
 same_bit : (w t q : ℕ) → bit (w + 2 ^ q * (2 * t)) q ≡ bit w q
 same_bit w t q = ap (λ x. eqb x 1) (ap (λ x. x % 2) (add-mul-div_left w (2 * t) (pow_pos q)) ∙ add-mul-mod_self_left (w / 2 ^ q) 2 t)
@@ -60,39 +65,31 @@ bit_word (suc k) q p h =
       | inr lt ↦ low_bit (word_below k p) q k (p k) lt ∙ bit_word k q p lt
     ]
 
-no_bit : (q : ℕ) → bit 0 q ≡ false
-no_bit q = top_bit 0 q false (pow_pos q)
+-- the bit at a place that may be past the last one, from what a shift and a default gave
+pub bit_read : (w k x : ℕ) (o : Option ℕ) → w < 2 ^ 64 → SomeIff o (k < 64) (w / 2 ^ k) → x ≡ unwrap_or o 0 → eqb (x % 2) 1 ≡ bit w k
+bit_read w k x (Some v) h shifted e = ap (λ y. eqb (y % 2) 1) (e ∙ shifted.1)
+bit_read w k x None h past e =
+    let past_end : 64 ≤ k = omega arith in
+    let long : 2 ^ 64 ≤ 2 ^ k = pow-le-pow_right {n = 2} (omega arith) {i = 64} past_end in
+    ap (λ y. eqb (y % 2) 1) (e ∙ sym (div-eq_of_lt (omega arith)))
 
 -- a power of two has one bit
 pow_bit : (k q : ℕ) → Decides (bit (2 ^ k) q) (q ≡ k)
 pow_bit k q =
-    elim (cases_order q k) [
-      | inl e ↦ (λ _. e, λ _. ap (bit (2 ^ k)) e ∙ whole k (λ x. bit x k) ∙ top_bit 0 k true (pow_pos k))
-      | inr r ↦ elim r [
-        | inl lt ↦ never (whole k (λ x. bit x q) ∙ low_bit 0 q k true lt ∙ no_bit q) (λ e. omega arith)
-        | inr gt ↦ never (ap (λ x. bit x q) (omega arith) ∙ top_bit (2 ^ k) q false (pow_below k q gt)) (λ e. omega arith)
-      ]
+    elim (cases_eq q k) [
+      | inl e ↦ (λ _. e, λ _. ap (λ x. eqb x 1) (ap (bit_at (2 ^ k)) e ∙ bit_at-pow_same k))
+      | inr ne ↦ (λ t. absurd (both_ways _ (ap (λ x. eqb x 1) (bit_at-pow_other k q ne)) t), λ e. absurd (ne e))
     ]
-  where
-    whole : (k : ℕ) (f : ℕ → Bool) → f (2 ^ k) ≡ f (0 + 2 ^ k)
-    whole k f = ap f (omega arith)
-
-    never : {P : Type 0} {b : Bool} → b ≡ false → (P → ⊥) → Decides b P
-    never e f = (λ t. absurd (both_ways _ e t), λ p. absurd (f p))
 
 either_bit : (x y : ℕ) → eqb (max (x % 2) (y % 2)) 1 ≡ (eqb (x % 2) 1 || eqb (y % 2) 1)
 either_bit x y = grind (arith, nat_tests)
 
 or_bit : (a b q : ℕ) → bit (bit_or a b) q ≡ (bit a q || bit b q)
-or_bit a b q =
-    let x = a / 2 ^ q in
-    let y = b / 2 ^ q in
-    let last : bit_or x y % 2 ≡ max (x % 2) (y % 2) = omega (arith, or_step x y) in
-    ap (λ z. eqb (z % 2) 1) (or_shr a b q) ∙ ap (λ z. eqb z 1) last ∙ either_bit x y
+or_bit a b q = ap (λ x. eqb x 1) (bit_at_or a b q) ∙ either_bit (a / 2 ^ q) (b / 2 ^ q)
 
 pub le_none : (a b : ℕ) → le 0 false a b ≡ false
 unfolding le
-le_none a b = no_bit (8 * a + b)
+le_none a b = ap (λ x. eqb x 1) (bit_at-zero (8 * a + b))
 
 -- the lines of w and one more
 pub le_or : (w a b x y : ℕ) → b < 8 → y < 8 → Decides (le (bit_or w (2 ^ (8 * a + b))) false x y) ((le w false x y ≡ true) ⊎ ((x ≡ a) × (y ≡ b)))

@@ -5,7 +5,8 @@
 --   word p         the word whose bit at the place of a pair says whether it passes p
 --   bit w k        the bit of w that is worth 2^k
 --   rising n p     passed by pairs of numbers below n, the smaller first, that pass p
-use Rattle.std.specs.Prelude.{ℕ, zero, suc, ◌+◌, ◌/◌, ◌%◌, ◌^◌, Bool, true, cond, ◌&&◌, Some, None, Option, ◌==◌, nat_lt}
+--   Says G p       p a b is the one answer that G gives to the pair (a, b)
+use Rattle.std.specs.Prelude.{◌≡◌, ◌<◌, ℕ, zero, suc, ◌+◌, ◌/◌, ◌%◌, ◌^◌, Bool, true, cond, ◌&&◌, Some, None, Option, ◌==◌, nat_lt}
 
 abbrev pub every : ℕ → (ℕ → Bool) → Bool
 every zero p = true
@@ -43,3 +44,6 @@ bit w k = w / 2 ^ k % 2 == 1
 
 abbrev pub rising : ℕ → (ℕ → ℕ → Bool) → ℕ → ℕ → Bool
 rising n p a b = nat_lt a b && (nat_lt b n && p a b)
+
+abbrev pub Says : (ℕ → ℕ → Bool → Type 0) → (ℕ → ℕ → Bool) → Type 0
+Says G p = (a b : ℕ) (r : Bool) → a < 8 → b < 8 → G a b r → r ≡ p a b

@@ -8,10 +8,10 @@ use Rattle.frames.specs.Refused.{row}
 use Rattle.frames.specs.Drafts.{Drafted, Framed}
 
 abbrev pub draft_of : Draft → Drafted
-draft_of d = record { size = d.size; lines = d.lines }
+draft_of d = record { size = d.lines.size; lines = d.lines.word }
 
 abbrev pub frame_of : Frame → Framed
-frame_of f = record { size = f.size; order = f.order }
+frame_of f = record { size = f.order.size; order = f.order.word }
 
 -- the answer to beginning a draft
 abbrev pub begun_of : Result Draft Refusal → Result Drafted Refused

@@ -3,8 +3,8 @@
 
 mod draft;
 mod frame;
-mod order;
 mod refusal;
+mod relation;
 mod test;
 
 pub use draft::Draft;

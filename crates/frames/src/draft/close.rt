@@ -1,123 +1,91 @@
 // Closing a draft.
-ghost use Rattle.std.specs.Prelude.{◌≡◌, ◌<◌, ◌≤◌, Ok, Err};
+ghost use Rattle.std.specs.Prelude.{◌≡◌, Ok, Err};
+ghost use Rattle.frames.specs.Tests.{first_pair, word, rising};
 ghost use Rattle.frames.specs.Closing.{begun, linked, closure, cyclic, gap, amiss, closing};
-ghost use Rattle.frames.specs.Tests.{rising};
 ghost use Rattle.frames.specs.Laws.{Drawn, Reason};
 ghost use Rattle.frames.specs.View.{draft_of, frame_of, closed_of};
 
 use crate::draft::Draft;
 use crate::frame::Frame;
-use crate::order::{bound_of, leq};
 use crate::refusal::Refusal;
-use crate::test::{Test, first_pair, word_of};
+use crate::relation::Relation;
+use crate::test::{first_pair, word_of};
 
-// Pairs of elements that a line joins, and each element with itself.
-#[derive(Drop)]
-struct Begun {
-    n: u8,
-    lines: u64,
-}
-
-impl Test for Begun {
-    ghost says = { λ t. begun t.n t.lines };
-
-    fn test(&self, a: u8, b: u8) -> bool {
-        a < self.n && b < self.n && (a == b || leq(self.lines, false, a, b))
+impl Relation {
+    // The lines, and each element below itself.
+    fn begun(self) -> Relation
+        ensures same_size { result.size ≡ self.size }
+        ensures word { result.word ≡ word (begun self.size self.word) }
+    {
+        let size = self.size;
+        let word = word_of(|a, b| a < size && b < size && (a == b || self.leq(a, b)));
+        Relation { size, word }
     }
-}
 
-// Pairs that are in the order, or are so by way of k.
-#[derive(Drop)]
-struct Linked {
-    order: u64,
-    k: u8,
-    ghost small: { k < 8 },
-}
-
-impl Test for Linked {
-    ghost says = { λ t. linked t.order t.k };
-
-    fn test(&self, a: u8, b: u8) -> bool {
-        leq(self.order, false, a, b)
-            || (leq(self.order, false, a, self.k) && leq(self.order, false, self.k, b))
+    // The relation with what goes by way of k.
+    fn linked(self, k: u8) -> Relation
+        ensures same_size { result.size ≡ self.size }
+        ensures word { result.word ≡ word (linked self.word k) }
+    {
+        let size = self.size;
+        let word = word_of(|a, b| self.leq(a, b) || (self.leq(a, k) && self.leq(k, b)));
+        Relation { size, word }
     }
-}
 
-// The order that the lines make.
-fn closure_of(n: u8, lines: u64) -> u64
-    requires { n ≤ 8 }
-    ensures { result ≡ closure n lines }
-{
-    let mut order = word_of(&Begun { n, lines });
-    for k in 0..n {
-        order = word_of(&Linked { order, k });
+    // The order that the lines make.
+    fn closure(self) -> Relation
+        ensures same_size { result.size ≡ self.size }
+        ensures word { result.word ≡ closure self.size self.word }
+    {
+        (0..self.size).fold(self.begun(), Relation::linked)
     }
-    order
-}
 
-// Pairs with the smaller number first that are below each other.
-#[derive(Drop)]
-struct Cyclic {
-    n: u8,
-    order: u64,
-}
-
-impl Test for Cyclic {
-    ghost says = { λ t. rising t.n (cyclic t.order) };
-
-    fn test(&self, a: u8, b: u8) -> bool {
-        a < b && b < self.n && leq(self.order, false, a, b) && leq(self.order, false, b, a)
+    // The first two elements that are below each other.
+    fn first_cycle(self) -> Option<(u8, u8)>
+        ensures { result ≡ first_pair (rising self.size (cyclic self.word)) }
+    {
+        first_pair(|a, b| a < b && b < self.size && self.leq(a, b) && self.leq(b, a))
     }
-}
 
-// Pairs with the smaller number first that lack a join or a meet.
-#[derive(Drop)]
-struct Gap {
-    n: u8,
-    order: u64,
-    ghost few: { n ≤ 8 },
-}
-
-impl Test for Gap {
-    ghost says = { λ t. rising t.n (gap t.n t.order) };
-
-    fn test(&self, a: u8, b: u8) -> bool {
-        a < b
-            && b < self.n
-            && !(bound_of(self.n, self.order, true, a, b).is_some()
-                && bound_of(self.n, self.order, false, a, b).is_some())
+    // The first two elements that lack a join or a meet.
+    fn first_gap(self) -> Option<(u8, u8)>
+        ensures { result ≡ first_pair (rising self.size (gap self.size self.word)) }
+    {
+        first_pair(|a, b| {
+            a < b
+                && b < self.size
+                && !(self.bound(true, a, b).is_some() && self.bound(false, a, b).is_some())
+        })
     }
-}
 
-// Why an order is no lattice.
-fn amiss(n: u8, order: u64) -> Option<Refusal>
-    requires { n ≤ 8 }
-    ensures { result ≡ amiss n order }
-{
-    if let Some((a, b)) = first_pair(&Cyclic { n, order }) {
-        return Some(Refusal::Cycle(a, b));
-    }
-    let (a, b) = first_pair(&Gap { n, order })?;
-    if bound_of(n, order, true, a, b).is_some() {
-        Some(Refusal::NoMeet(a, b))
-    } else {
-        Some(Refusal::NoJoin(a, b))
+    // Why the order is no lattice.
+    #[tactic(auto, unfolding(crate::specs::Closing::amiss))]
+    fn amiss(self) -> Option<Refusal>
+        ensures { result ≡ amiss self.size self.word }
+    {
+        if let Some((a, b)) = self.first_cycle() {
+            return Some(Refusal::Cycle(a, b));
+        }
+        let (a, b) = self.first_gap()?;
+        if self.bound(true, a, b).is_some() {
+            Some(Refusal::NoMeet(a, b))
+        } else {
+            Some(Refusal::NoJoin(a, b))
+        }
     }
 }
 
 impl Draft {
     // The frame in which a is below b where a chain of lines leads from a to b; or the draft as it was, if that is no lattice.
+    #[tactic(auto, using(crate::proofs::Closing::reason_of))]
     pub fn close(self) -> Result<Frame, (Draft, Refusal)>
         ensures does { closed_of result ≡ closing (draft_of self) }
         ensures law { elim result [ Ok f ↦ Drawn (draft_of self) (frame_of f) | Err e ↦ Reason (draft_of self) e.1 ] }
     {
-        let order = closure_of(self.size, self.lines);
-        match amiss(self.size, order) {
+        let order = self.lines.closure();
+        match order.amiss() {
             Some(refusal) => Err((self, refusal)),
-            None => Ok(Frame {
-                size: self.size,
-                order,
-            }),
+            None => Ok(Frame { order }),
         }
     }
 }

@@ -7,12 +7,14 @@ ghost use Rattle.frames.specs.View.{draft_of, begun_of};
 
 use crate::draft::Draft;
 use crate::refusal::Refusal;
+use crate::relation::Relation;
 
 // The most elements of a draft.
 const MOST: u64 = 8;
 
 impl Draft {
     // A draft of n elements with no lines.
+    #[tactic(auto, using(crate::proofs::Words::le_none))]
     pub fn begin(n: u64) -> Result<Draft, Refusal>
         ensures does { begun_of result ≡ beginning n }
         ensures law { IfOk result (λ d. (a b : ℕ) → Line (draft_of d) a b → ⊥) }
@@ -21,8 +23,10 @@ impl Draft {
             return Err(Refusal::Size);
         }
         Ok(Draft {
-            size: n as u8,
-            lines: 0,
+            lines: Relation {
+                size: n as u8,
+                word: 0,
+            },
         })
     }
 
@@ -30,7 +34,7 @@ impl Draft {
     pub fn size(&self) -> u8
         ensures { result ≡ (draft_of self.now).size }
     {
-        self.size
+        self.lines.size
     }
 
     // Puts a below b.
@@ -38,11 +42,11 @@ impl Draft {
         ensures does { (draft_of self.new, told result) ≡ lining (draft_of self.old) a b }
         ensures law { OnOk result (Lined (draft_of self.old) a b (draft_of self.new)) }
     {
-        let size = self.size as u64;
+        let size = u64::from(self.lines.size);
         if a >= size || b >= size {
             return Err(Refusal::Element);
         }
-        self.lines |= 1 << (8 * a + b);
+        self.lines.word |= 1 << (8 * a + b);
         Ok(())
     }
 }

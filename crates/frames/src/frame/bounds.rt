@@ -1,5 +1,5 @@
 // Frames as lattices.
-ghost use Rattle.std.specs.Prelude.{◌≡◌, ◌<◌, Decides, nat_lt};
+ghost use Rattle.std.specs.Prelude.{◌≡◌, Decides, nat_lt};
 ghost use Rattle.lattice.specs.Answers.{Meets, Joins, Compares};
 ghost use Rattle.frames.specs.Order.{bound_in, frame, Greatest, Least, Orders};
 ghost use Rattle.frames.specs.View.{frame_of};
@@ -7,7 +7,6 @@ ghost use Rattle.free_lattice.proofs.Bounds.{laws_of_bounded};
 ghost use Rattle.frames.specs.Framing.{bounded};
 
 use crate::frame::Frame;
-use crate::order::{bound_of, leq};
 use lattice::Lattice;
 
 impl Frame {
@@ -15,17 +14,14 @@ impl Frame {
     pub fn size(&self) -> u8
         ensures { result ≡ (frame_of self.now).size }
     {
-        self.size
+        self.order.size
     }
 
     // The meet of two elements, or their join where `up`.
     fn bound(&self, up: bool, a: u8, b: u8) -> u8
-        ensures { a < self.now.size → b < self.now.size → result ≡ bound_in self.now.size self.now.order up a b }
+        ensures { result ≡ bound_in self.now.order.size self.now.order.word up a b }
     {
-        if a >= self.size || b >= self.size {
-            return 0;
-        }
-        bound_of(self.size, self.order, up, a, b).unwrap_or(0)
+        self.order.bound(up, a, b).unwrap_or(0)
     }
 }
 
@@ -40,7 +36,7 @@ impl Lattice for Frame {
         ensures admits { Decides result ((frame (frame_of self.now)).admitted x) }
         ensures number { result ≡ nat_lt x (frame_of self.now).size }
     {
-        x < self.size
+        x < self.order.size
     }
 
     fn meet(&self, a: u8, b: u8) -> u8
@@ -57,10 +53,11 @@ impl Lattice for Frame {
         self.bound(true, a, b)
     }
 
+    #[tactic(auto, using(crate::specs::Framing::compares))]
     fn below(&self, a: u8, b: u8) -> bool
         ensures compares { Compares (frame (frame_of self.now)) a b result }
         ensures order { Orders (frame_of self.now) a b result }
     {
-        a < self.size && b < self.size && leq(self.order, false, a, b)
+        self.admits(a) && self.admits(b) && self.order.leq(a, b)
     }
 }

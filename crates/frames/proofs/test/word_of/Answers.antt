@@ -1,24 +1,17 @@
-use Rattle.std.proofs.Common.{◌≡◌, ap, ◌∙◌, arith}
+use Rattle.std.proofs.Common.{◌≡◌, Bool, ◌*◌, ◌/◌, ◌%◌, ◌^◌, rules, arith}
+use lib.Bits.{bit_or}
+use Rattle.std.specs.Int.{from_bool}
 use Rattle.frames.specs.Tests.{at, word_below}
-use Rattle.frames.proofs.Words.{word_none, word_with, word_without}
+use Rattle.frames.proofs.Words.{word_none, word_or}
+use Rattle.frames.proofs.Searches.{kept_of_fold}
 use Rattle.frames.proofs.test.word_of.Goals as goal
-use Rattle.frames.proofs.test.word_of.Goals.{then-test, else-test}
-
-pub loop-q-init : goal.loop-q-init
-loop-q-init g c = word_none (at (g.T.Test.says c.args.t.now))
-
-pub loop-q-preserved : goal.loop-q-preserved
-loop-q-preserved g c =
-    let p = at (g.T.Test.says c.args.t.now) in
-    let q = c.loop-q.q in
-    let word = c.loop-q.word in
-    let test = c.test.result in
-    elim c.if-test.branch [
-      | then-test w ↦ word_with q p word _ test c.loop-q-test.true c.loop-q.invariant c.test.ensures w.if-test.true w.word-is
-      | else-test w ↦ word_without q p word _ test c.loop-q.invariant c.test.ensures w.if-test.false w.word-is
-    ]
 
 pub returns : goal.returns
 returns g c =
-    let e : c.loop-q.q ≡ 64 = omega arith in
-    c.loop-q.invariant ∙ ap (λ n. word_below n (at (g.T.Test.says c.args.t.now))) e
+    λ says h. kept_of_fold 64 (λ k w. w ≡ word_below k (at says)) _ 0 c.fold.result c.fold.ensures.ran (word_none (at says))
+    (λ x w v q k. (
+      search rules,
+      λ lt e.
+          let s : (t : Bool) × goal.F-post g c.args.test (x / 8) (x % 8) t × (v ≡ bit_or w ((from_bool t * 2 ^ x) % 2 ^ 64)) = search rules in
+          word_or x (at says) w v s.0 lt e (h (x / 8) (x % 8) s.0 (omega arith) (omega arith) s.1) s.2,
+    ))

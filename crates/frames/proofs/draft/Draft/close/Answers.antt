@@ -1,49 +1,33 @@
-use Rattle.std.proofs.Common.{◌≡◌, ℕ, Some, None, Ok, Option, ap, ◌∙◌}
-use Rattle.frames.specs.declared.refusal.Refusal.{Refusal}
+use Rattle.std.proofs.Common.{◌≡◌, ℕ, ◌<◌, ◌≤◌, false, None, Ok, Decides, arith}
+use Rattle.frames.specs.Order.{le}
 use Rattle.frames.specs.Drafts.{Drafted}
-use Rattle.frames.specs.Closing.{closure, amiss, closing_by, closing}
-use Rattle.frames.specs.Laws.{Chain}
+use Rattle.frames.specs.Closing.{closure, amiss, closing}
+use Rattle.frames.specs.Laws.{Chain, Drawn}
 use Rattle.frames.specs.View.{draft_of}
 use Rattle.frames.specs.Bounds.{reflexive_by, transitive_by, antisymmetric_by, complete_by}
-use Rattle.frames.proofs.Closing.{drawn_of, reason_of}
+use Rattle.frames.proofs.Closing.{drawn_of}
 use Rattle.frames.proofs.draft.Draft.close.Goals as goal
 
--- what is found amiss with the order, from what the calls answered
-found : (D : Drafted) (w : ℕ) (o : Option Refusal) → w ≡ closure D.size D.lines → o ≡ amiss D.size w → o ≡ amiss D.size (closure D.size D.lines)
-found D w o e f = f ∙ ap (amiss D.size) e
-
-granted : (D : Drafted) (w : ℕ) → w ≡ closure D.size D.lines → None ≡ amiss D.size w → Ok (record { size = D.size; order = w }) ≡ closing D
-granted D w e f = ap (λ (x : ℕ). Ok (record { size = D.size; order = x })) e ∙ ap (closing_by D (closure D.size D.lines)) (found D w None e f)
+-- the frame of an order with which nothing is amiss, from what the calls answered
+drawn : (D : Drafted) (n w : ℕ) → D.size ≤ 8 → n ≡ D.size → w ≡ closure D.size D.lines → None ≡ amiss n w → Drawn D (record { size = n; order = w })
+drawn D n w few same e none =
+    let granted : Ok (record { size = n; order = w }) ≡ closing D = grind arith in drawn_of D few (record { size = n; order = w }) granted
 
 pub invariant_of-result : goal.invariant_of-result
 invariant_of-result c =
     let D = draft_of c.args.self in
-    let few = c.args.self.few in
-    let w = c.closure_of-order.result in
-    let d = drawn_of D few (record { size = D.size; order = w }) (granted D w c.closure_of-order.ensures c.in-None.ensures) in
+    let n = c.closure-order.result.size in
+    let w = c.closure-order.result.word in
+    let d = drawn D n w c.args.self.lines.few c.closure-order.ensures.same_size c.closure-order.ensures.word c.in-None.ensures in
+    let decides : (a b : ℕ) → a < n → b < n → Decides (le w false a b) (Chain D a b) = λ a b p q. d.decides a b (omega arith) (omega arith) in
     let o = d.lattice.order in
     record {
-      some = c.args.self.some;
-      few = few;
-      reflexive = reflexive_by D.size w (Chain D) d.decides o;
-      transitive = transitive_by D.size w (Chain D) d.decides o;
-      antisymmetric = antisymmetric_by D.size w (Chain D) d.decides o;
-      complete = complete_by D.size w (Chain D) d.decides d.lattice;
+      reflexive = reflexive_by n w (Chain D) decides o;
+      transitive = transitive_by n w (Chain D) decides o;
+      antisymmetric = antisymmetric_by n w (Chain D) decides o;
+      complete = complete_by n w (Chain D) decides d.lattice;
     }
 
-pub returns-in-None : goal.returns-in-None
-returns-in-None c =
-    let D = draft_of c.args.self in
-    let w = c.closure_of-order.result in
-    let does = granted D w c.closure_of-order.ensures c.in-None.ensures in
-    record { does = does; law = drawn_of D c.args.self.few (record { size = D.size; order = w }) does }
-
-pub returns-in-Some : goal.returns-in-Some
-returns-in-Some c =
-    let D = draft_of c.args.self in
-    let f = c.in-Some.refusal in
-    let amiss = found D c.closure_of-order.result (Some f) c.closure_of-order.ensures c.in-Some.ensures in
-    record {
-      does = ap (closing_by D (closure D.size D.lines)) amiss;
-      law = reason_of D c.args.self.few f amiss;
-    }
+pub returns-in-None-clause-law : goal.returns-in-None-clause-law
+returns-in-None-clause-law c =
+    drawn (draft_of c.args.self) c.closure-order.result.size c.closure-order.result.word c.args.self.lines.few c.closure-order.ensures.same_size c.closure-order.ensures.word c.in-None.ensures

@@ -5,12 +5,9 @@ use Rattle.frames.specs.View.{frame_of}
 use Rattle.frames.specs.Framing.{bounded}
 use Rattle.frames.proofs.frame.bounds.FrameLattice.join.Goals as goal
 
-pub returns : goal.returns
-returns c =
+pub returns-clause-least : goal.returns-clause-least
+returns-clause-least c =
     let f = c.args.self.now in
     let a = c.args.a in
     let b = c.args.b in
-    record {
-      joins = c.bound.ensures;
-      least = λ p q. subst (Supremum (λ x. x < f.size) (Le (frame_of f)) a b) (sym (c.bound.ensures p q)) ((bounded f).suprema a b p q);
-    }
+    λ p q. subst (Supremum (λ x. x < f.order.size) (Le (frame_of f)) a b) (sym c.bound.ensures) ((bounded f).suprema a b p q)

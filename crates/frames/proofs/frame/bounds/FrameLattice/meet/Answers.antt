@@ -5,12 +5,9 @@ use Rattle.frames.specs.View.{frame_of}
 use Rattle.frames.specs.Framing.{bounded}
 use Rattle.frames.proofs.frame.bounds.FrameLattice.meet.Goals as goal
 
-pub returns : goal.returns
-returns c =
+pub returns-clause-greatest : goal.returns-clause-greatest
+returns-clause-greatest c =
     let f = c.args.self.now in
     let a = c.args.a in
     let b = c.args.b in
-    record {
-      meets = c.bound.ensures;
-      greatest = λ p q. subst (Infimum (λ x. x < f.size) (Le (frame_of f)) a b) (sym (c.bound.ensures p q)) ((bounded f).infima a b p q);
-    }
+    λ p q. subst (Infimum (λ x. x < f.order.size) (Le (frame_of f)) a b) (sym c.bound.ensures) ((bounded f).infima a b p q)
