@@ -13,7 +13,7 @@ pub(crate) struct Relation {
 }
 
 impl Relation {
-    // Whether a is below b.
+    // Whether a is below b, if both are elements.
     #[tactic(auto, using(crate::proofs::Words::bit_read), unfolding(crate::specs::Order::le))]
     pub(crate) fn leq(self, a: u8, b: u8) -> bool
         ensures { result ≡ le self.word false a b }
