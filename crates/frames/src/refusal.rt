@@ -20,7 +20,7 @@ pub enum Refusal {
 }
 
 impl Refusal {
-    // The number by which users know the refusal.
+    // The number by which users know the refusal. A variant that carries a value has no number of its own to cast.
     pub fn number(self) -> u8
         ensures { result ≡ (row self).number }
     {
