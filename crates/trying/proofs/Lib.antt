@@ -1,4 +1,5 @@
 pub mod Slots
+pub mod Strays
 pub mod Turns
 pub mod Judging
 pub mod Numbers

@@ -14,13 +14,6 @@ up_to : (P : ℕ → Type 0) (k : ℕ) → ((j : ℕ) → j < k → P j) → P k
 up_to P k below here j lt = ⊎_elim (below j) (λ e. subst P (sym e) here) (order j k lt)
 
 module _ {E : Type 0} (m : Meaning E) (ns : List Node) where
-  pub ready_variable : (k : ℕ) (s : List E) (x : E) → k < length s → x ≡ get_or s k x → m.admitted x → Ready m ns k s → Ready m ns (k + 1) s
-  ready_variable k s x lt ex ok below d j c h =
-      up_to (λ i. node_at ns i ≡ Variable c → m.admitted (get_or s i d)) k (λ i l. below d i c l) (λ e. subst m.admitted (ex ∙ get_or_default s k x d lt) ok) j h
-
-  pub ready_other : (k : ℕ) (s : List E) (x : Node) → x ≡ node_at ns k → ((c : ℕ) → x ≡ Variable c → ⊥) → Ready m ns k s → Ready m ns (k + 1) s
-  ready_other k s x is other below d j c h = up_to (λ i. node_at ns i ≡ Variable c → m.admitted (get_or s i d)) k (λ i l. below d i c l) (λ e. absurd (other c (is ∙ e))) j h
-
   -- what a turn at k leaves: the slots up to k filled and admitted
   pub record Turn (k : ℕ) (s t : List E) : Type 0 where
     pub slots : Filled m ns k s t

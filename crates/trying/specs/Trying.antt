@@ -3,6 +3,7 @@
 --   reach u v          how many slots it takes: one for each node up to the later of the two
 --   checked ns u v n   whether both nodes are there, and n slots suffice
 --   filled .. ns n s   the slots of the meets and joins among the first n nodes filled, bottom up
+--   Strays, ReadyAt m ns s k   node k is a variable whose slot is not admitted; it is none, or its slot is
 --   Ready m ns n s     the slots of the variables among the first n nodes are admitted
 --   Stray m ns n s k   of the variables among the first n nodes, k is the first whose slot is not admitted
 --   Tried .. s t r     r is the answer, and t the slots that it leaves
@@ -46,8 +47,18 @@ Filled {E} m ns n s t = (d : E) → t ≡ filled m.meet m.join d ns n s
 abbrev pub Admitted : {E : Type 0} → Meaning E → ℕ → List E → Type 0
 Admitted {E} m n t = (d : E) (k : ℕ) → k < n → m.admitted (slice_index_or t k d)
 
+-- slot k is admitted, if node k is a variable
+pub record ReadyAt {E : Type 0} (m : Meaning E) (ns : List Node) (s : List E) (k : ℕ) : Type 0 where
+  pub ready : (d : E) (c : ℕ) → node_at ns k ≡ Variable c → m.admitted (slice_index_or s k d)
+
 abbrev pub Ready : {E : Type 0} → Meaning E → List Node → ℕ → List E → Type 0
 Ready {E} m ns n s = (d : E) (k c : ℕ) → k < n → node_at ns k ≡ Variable c → m.admitted (slice_index_or s k d)
+
+-- node k is a variable whose slot is not admitted
+pub record Strays {E : Type 0} (m : Meaning E) (ns : List Node) (s : List E) (k : ℕ) : Type 0 where
+  pub code : ℕ
+  pub variable : node_at ns k ≡ Variable code
+  pub unadmitted : (d : E) → m.admitted (slice_index_or s k d) → ⊥
 
 pub record Stray {E : Type 0} (m : Meaning E) (ns : List Node) (n : ℕ) (s : List E) (k : ℕ) : Type 0 where
   pub within : k < n

@@ -1,10 +1,10 @@
 // Trying: the slots of the nodes are filled bottom up from those of the variables, and two of them compared.
 // Slot k belongs to node k.
-ghost use Rattle.std.specs.Prelude.{◌≡◌, ◌<◌, ◌≤◌, length, MatchOption};
+ghost use Rattle.std.specs.Prelude.{◌≡◌, ◌<◌, ◌≤◌, length, MatchBool, MatchOption};
 ghost use Rattle.sheet.specs.Nodes.{node_at};
 ghost use Rattle.sheet.specs.View.{nodes_of};
 ghost use Rattle.trying.specs.Refused.{told};
-ghost use Rattle.trying.specs.Trying.{checked, PartsBelow, Ready, Stray, Filled, Admitted, Tried, Judged};
+ghost use Rattle.trying.specs.Trying.{checked, PartsBelow, ReadyAt, Ready, Strays, Stray, Filled, Admitted, Tried, Judged};
 
 use crate::refusal::Refusal;
 use lattice::Lattice;
@@ -32,22 +32,25 @@ fn node_at(sheet: &Sheet, k: usize) -> Node
     sheet.node(k).unwrap()
 }
 
-// The first variable below `end` whose slot the lattice does not admit.
-// A struct of the lattice, the sheet and `end` would be made in `try_in` alone, for this call and the next.
+// The functions take the lattice, the sheet and the slots one by one: a struct of them would be made in `try_in` alone,
+// and every clause would name its fields.
+
+// Whether node k is a variable whose slot the lattice does not admit.
+fn strays<L: Lattice>(lattice: &L, sheet: &Sheet, k: usize, slots: &[L::Element]) -> bool
+    requires node { k < length (nodes_of sheet.now) }
+    requires slot { k < length slots.now }
+    ensures { MatchBool result (Strays (L.means lattice.now) (nodes_of sheet.now) slots.now k) (ReadyAt (L.means lattice.now) (nodes_of sheet.now) slots.now k) }
+{
+    matches!(node_at(sheet, k), Node::Variable(_)) && !lattice.admits(slots[k])
+}
+
+// The first variable below `end` that strays.
 fn stray<L: Lattice>(lattice: &L, sheet: &Sheet, end: usize, slots: &[L::Element]) -> Option<usize>
     requires nodes { end ≤ length (nodes_of sheet.now) }
     requires room { end ≤ length slots.now }
     ensures { MatchOption result (Ready (L.means lattice.now) (nodes_of sheet.now) end slots.now) (Stray (L.means lattice.now) (nodes_of sheet.now) end slots.now) }
 {
-    // No `find`: the proof does not reach what the lattice answered inside its closure.
-    for k in 0..end {
-        if let Node::Variable(_) = node_at(sheet, k) {
-            if !lattice.admits(slots[k]) {
-                return Some(k);
-            }
-        }
-    }
-    None
+    (0..end).find(|&k| strays(lattice, sheet, k, slots))
 }
 
 // Fills the slots of the meets and joins below `end`, each from the slots of its parts.
