@@ -38,6 +38,9 @@ pub enum Error {
     Mistake(Mistake),
 }
 
+// What a line is answered.
+pub type Reply = Result<Answer, Error>;
+
 // The conversions are written out, since derived ones would have no contract.
 impl From<sheet::Refusal> for Error {
     ghost from_gives = { λ r e. e ≡ error.Sheet r };

@@ -8,7 +8,7 @@ ghost use Rattle.desk.specs.Answers.{replied};
 ghost use Rattle.desk.specs.Desks.{cleared, entering, reading, drafting, relating, closing, tried_on, on_site, trying, step};
 ghost use Rattle.desk.specs.View.{desk_of};
 
-use crate::answer::{Answer, Error, Tried};
+use crate::answer::{Answer, Error, Reply, Tried};
 use crate::wide::Wide;
 use command::{Command, Mistake, Site, Trial, Verb, slots_of};
 use divisors::Divisors;
@@ -34,7 +34,7 @@ fn tried<L: Lattice<Element = u64>>(
     u: usize,
     v: usize,
     mut slots: Vec<u64>,
-) -> Result<Answer, Error>
+) -> Reply
     ensures { (test : ℕ → Bool) → Tells test (L.means lattice.now) → replied result ≡ tried_on (nodes_of sheet.now) u v slots.items (site (L.means lattice.now) test) }
 {
     let holds = try_in(lattice, sheet, u, v, &mut slots)?;
@@ -52,26 +52,26 @@ impl Desk {
         })
     }
 
-    fn enter(&mut self, node: Node) -> Result<Answer, Error>
+    fn enter(&mut self, node: Node) -> Reply
         ensures { (desk_of self.new, replied result) ≡ entering (desk_of self.old) node }
     {
         Ok(Answer::Node(self.sheet.enter(node)?))
     }
 
-    fn read(&mut self, text: &[u8]) -> Result<Answer, Error>
+    fn read(&mut self, text: &[u8]) -> Reply
         ensures { (desk_of self.new, replied result) ≡ reading (desk_of self.old) text.now }
     {
         Ok(Answer::Node(read(&mut self.sheet, text)?))
     }
 
-    fn draft(&mut self, n: u64) -> Result<Answer, Error>
+    fn draft(&mut self, n: u64) -> Reply
         ensures { (desk_of self.new, replied result) ≡ drafting (desk_of self.old) n }
     {
         self.draft = Some(Draft::begin(n)?);
         Ok(Answer::Draft(n))
     }
 
-    fn line(&mut self, a: u64, b: u64) -> Result<Answer, Error>
+    fn line(&mut self, a: u64, b: u64) -> Reply
         ensures { (desk_of self.new, replied result) ≡ relating (desk_of self.old) a b }
     {
         let draft = self.draft.as_mut().ok_or(Error::NoDraft)?;
@@ -80,7 +80,7 @@ impl Desk {
     }
 
     // A draft that closes becomes the frame, and one that does not stays.
-    fn close(&mut self) -> Result<Answer, Error>
+    fn close(&mut self) -> Reply
         ensures { (desk_of self.new, replied result) ≡ closing (desk_of self.old) }
     {
         let draft = self.draft.take().ok_or(Error::NoDraft)?;
@@ -97,7 +97,7 @@ impl Desk {
     }
 
     // Tries u and v on the site that was named, if there is one.
-    fn on_site(&self, site: Site, u: usize, v: usize, slots: Vec<u64>) -> Result<Answer, Error>
+    fn on_site(&self, site: Site, u: usize, v: usize, slots: Vec<u64>) -> Reply
         ensures { replied result ≡ on_site (desk_of self.now) (tried_on (nodes_of self.now.sheet) u v slots.items) site }
     {
         match site {
@@ -113,7 +113,7 @@ impl Desk {
         }
     }
 
-    fn try_trial(&self, heap: Global, trial: Trial) -> Result<Result<Answer, Error>, AllocError>
+    fn try_trial(&self, heap: Global, trial: Trial) -> Result<Reply, AllocError>
         ensures { IfOk result (λ r. replied r ≡ trying (desk_of self.now) (trial_asked trial.entry)) }
     {
         let Some(slots) = slots_of(heap, &self.sheet, trial.u.max(trial.v), trial.slots)? else {
@@ -123,11 +123,7 @@ impl Desk {
     }
 
     // Makes the call that a command asks for. Only memory can run out on it, and then it leaves the desk as it was.
-    pub fn call(
-        &mut self,
-        heap: Global,
-        command: Command,
-    ) -> Result<Result<Answer, Error>, AllocError>
+    pub fn call(&mut self, heap: Global, command: Command) -> Result<Reply, AllocError>
         ensures { MatchResult result (λ r. (desk_of self.new, replied r) ≡ step (desk_of self.old) (called command.entry)) (λ _. desk_of self.new ≡ desk_of self.old) }
     {
         Ok(match command {

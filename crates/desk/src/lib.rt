@@ -6,6 +6,6 @@ mod desk;
 mod script;
 mod wide;
 
-pub use answer::{Answer, Error, Tried};
+pub use answer::{Answer, Error, Reply, Tried};
 pub use desk::Desk;
 pub use script::transcribe;

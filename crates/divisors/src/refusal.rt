@@ -20,7 +20,6 @@ impl Refusal {
     }
 }
 
-// The number.
 impl fmt::Display for Refusal {
     ghost output = { λ r. Some (text (row r)) };
 

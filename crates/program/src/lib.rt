@@ -22,10 +22,7 @@ fn input(rt: &HostRuntime, usage: &'static str) -> anyhow::Result<Vec<u8>> {
     if args.next().is_some() {
         return Err(anyhow!("usage: {usage}"));
     }
-    match fs::read(rt, path.as_str()) {
-        Ok(bytes) => Ok(bytes),
-        Err(e) => Err(anyhow!(format!(in rt.alloc(); "{path}: {e}")?)),
-    }
+    fs::read(rt, path.as_str()).map_err(|e| anyhow!("{path}: {e}"))
 }
 
 fn print<F: FnOnce(Global, &[u8]) -> Result<String, AllocError>>(
@@ -40,7 +37,7 @@ fn print<F: FnOnce(Global, &[u8]) -> Result<String, AllocError>>(
     Ok(())
 }
 
-// Prints the transcript of the program's script. The status is 0, or 1 behind an error.
+// Prints the transcript of the program's script. The status is 0; or 1, and then the error was printed.
 pub fn run<F: FnOnce(Global, &[u8]) -> Result<String, AllocError>>(
     rt: &HostRuntime,
     usage: &'static str,

@@ -12,7 +12,7 @@ pub enum Node {
 }
 
 // A node with its settled pairs: bit j of `settled` says that the pair of this node and node j is settled,
-// and bit j of `affirmed` that its answer is yes. They are words, since no call on a sheet may allocate.
+// and bit j of `affirmed` that its answer is yes. Words of bits are the subject's own form of these rows.
 #[derive(Clone, Copy)]
 pub struct Record {
     node: Node,

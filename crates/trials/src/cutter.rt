@@ -2,13 +2,13 @@
 use reader::{Cause, Cutter, Fault, Kind, Layer, Token};
 use std::process::Abort;
 
-// What the cutter answers: the kind of a token, or why there is none, each with the place.
-type Piece = Result<(Kind, usize), (Cause, usize)>;
+// The kind of a token, or why there is none, and the place.
+type Piece = (Result<Kind, Cause>, usize);
 
-fn answer(piece: Piece) -> Result<Option<Token>, Fault> {
-    match piece {
-        Ok((kind, place)) => Ok(Some(Token { kind, place })),
-        Err((cause, place)) => Err(Fault {
+fn answer((kind, place): Piece) -> Result<Option<Token>, Fault> {
+    match kind {
+        Ok(kind) => Ok(Some(Token { kind, place })),
+        Err(cause) => Err(Fault {
             cause,
             place,
             layer: Layer::Cutter,
@@ -30,56 +30,56 @@ fn cuts(rt: &impl Abort, text: &[u8], pieces: &[Piece]) {
 static TEXTS: &[(&[u8], &[Piece])] = &[
     (b"", &[]),
     (b"   ", &[]),
-    (b"x", &[Ok((Kind::Variable(2323), 0))]),
-    (b" z99 ", &[Ok((Kind::Variable(2625), 1))]),
+    (b"x", &[(Ok(Kind::Variable(2323)), 0)]),
+    (b" z99 ", &[(Ok(Kind::Variable(2625)), 1)]),
     (
         b"(+)*",
         &[
-            Ok((Kind::Open, 0)),
-            Ok((Kind::Plus, 1)),
-            Ok((Kind::Close, 2)),
-            Ok((Kind::Star, 3)),
+            (Ok(Kind::Open), 0),
+            (Ok(Kind::Plus), 1),
+            (Ok(Kind::Close), 2),
+            (Ok(Kind::Star), 3),
         ],
     ),
     (
         b"a10b0c",
         &[
-            Ok((Kind::Variable(11), 0)),
-            Ok((Kind::Variable(102), 3)),
-            Ok((Kind::Variable(202), 5)),
+            (Ok(Kind::Variable(11)), 0),
+            (Ok(Kind::Variable(102)), 3),
+            (Ok(Kind::Variable(202)), 5),
         ],
     ),
     (
         b" (x10 +x01*?)",
         &[
-            Ok((Kind::Open, 1)),
-            Ok((Kind::Variable(2334), 2)),
-            Ok((Kind::Plus, 6)),
-            Err((Cause::BadNumber, 7)),
-            Ok((Kind::Star, 10)),
-            Err((Cause::NoToken, 11)),
-            Ok((Kind::Close, 12)),
+            (Ok(Kind::Open), 1),
+            (Ok(Kind::Variable(2334)), 2),
+            (Ok(Kind::Plus), 6),
+            (Err(Cause::BadNumber), 7),
+            (Ok(Kind::Star), 10),
+            (Err(Cause::NoToken), 11),
+            (Ok(Kind::Close), 12),
         ],
     ),
     (
         b"x1000 y",
-        &[Err((Cause::BadNumber, 0)), Ok((Kind::Variable(2424), 6))],
+        &[(Err(Cause::BadNumber), 0), (Ok(Kind::Variable(2424)), 6)],
     ),
     (
         b"12x",
         &[
-            Err((Cause::NoToken, 0)),
-            Err((Cause::NoToken, 1)),
-            Ok((Kind::Variable(2323), 2)),
+            (Err(Cause::NoToken), 0),
+            (Err(Cause::NoToken), 1),
+            (Ok(Kind::Variable(2323)), 2),
         ],
     ),
     (
         b"x 1",
-        &[Ok((Kind::Variable(2323), 0)), Err((Cause::NoToken, 2))],
+        &[(Ok(Kind::Variable(2323)), 0), (Err(Cause::NoToken), 2)],
     ),
     (
         b"\xff \t",
-        &[Err((Cause::NoToken, 0)), Err((Cause::NoToken, 2))],
+        &[(Err(Cause::NoToken), 0), (Err(Cause::NoToken), 2)],
     ),
 ];
 

@@ -76,7 +76,7 @@ static REFUSED: &[Refused] = &[
     (&[(b"(+", 1), (b" x", 50_000), (b")", 1)], 8, 123),
 ];
 
-// Unlike those of `shared`, these weave their texts first.
+// Not those of `shared`: a text is woven here and freed before the next, which a row of bytes is not.
 fn all_granted(rt: &impl Abort, heap: Global, rows: &[Granted]) -> Result<(), Fail> {
     let mut sheet = Sheet::blank(heap)?;
     for (row, (parts, node)) in rows.iter().enumerate() {

@@ -1,4 +1,4 @@
-// The worksheet over a desk: reads a script of commands, and writes an answer line for each.
+// The worksheet with trials in lattices: reads a script of commands, and writes an answer line for each.
 #![tactic(auto)]
 
 mod script;

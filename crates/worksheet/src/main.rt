@@ -1,4 +1,4 @@
-// The worksheet: reads a script of commands, and writes an answer line for each.
+// The worksheet with the sheet alone: reads a script of commands, and writes an answer line for each.
 #![tactic(auto)]
 
 mod script;

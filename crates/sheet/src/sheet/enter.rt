@@ -4,7 +4,7 @@ ghost use Rattle.std.specs.List.{slice_get};
 ghost use Rattle.sheet.specs.Nodes.{find};
 ghost use Rattle.sheet.specs.Refused.{told};
 ghost use Rattle.sheet.specs.State.{blank, count};
-ghost use Rattle.sheet.specs.Enter.{entering, judged, present, Entered};
+ghost use Rattle.sheet.specs.Enter.{entering, judged, Entered};
 ghost use Rattle.sheet.specs.View.{state};
 
 use crate::node::{Node, Record};
@@ -31,16 +31,6 @@ impl Sheet {
         self.records.len()
     }
 
-    fn present(&self, k: usize) -> Result<(), Refusal>
-        ensures { told result ≡ present (count (state self.now)) k }
-    {
-        if k < self.count() {
-            Ok(())
-        } else {
-            Err(Refusal::NoNode(k))
-        }
-    }
-
     fn judge(&self, node: Node) -> Result<(), Refusal>
         ensures { told result ≡ judged (count (state self.now)) node }
     {
@@ -48,8 +38,9 @@ impl Sheet {
             Node::Variable(code) if code > LAST => Err(Refusal::BadCode),
             Node::Variable(_) => Ok(()),
             Node::Meet(a, b) | Node::Join(a, b) => {
-                self.present(a)?;
-                self.present(b)
+                self.node(a).ok_or(Refusal::NoNode(a))?;
+                self.node(b).ok_or(Refusal::NoNode(b))?;
+                Ok(())
             }
         }
     }
