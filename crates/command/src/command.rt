@@ -38,10 +38,7 @@ fn node(words: &[u8]) -> Option<Node>
 fn text(behind: &[u8]) -> &[u8]
     ensures { result.now ≡ drop 1 behind.now }
 {
-    match behind {
-        [] => behind,
-        [_, text @ ..] => text,
-    }
+    behind.get(1..).unwrap_or(behind)
 }
 
 // A command that takes no words.
@@ -51,7 +48,7 @@ fn alone<'a>(command: Command<'a>, words: &[u8]) -> Option<Command<'a>>
     no_words(words).then_some(command)
 }
 
-// The command of a verb, with what stands behind it.
+// The command of a verb, with what stands behind it. `Some(..?)` and no `map`, whose result with a lifetime gets no proof.
 fn command_of(verb: Verb, behind: &[u8]) -> Option<Command<'_>>
     ensures { option_map called result ≡ call_of verb behind.now }
 {

@@ -14,10 +14,8 @@ use text::{number, split_word, until};
 fn worth(behind: &[u8]) -> Option<u64>
     ensures { result ≡ worth behind.now }
 {
-    match behind {
-        [] => None,
-        [_, digits @ ..] => number(digits),
-    }
+    let (_, digits) = behind.split_first()?;
+    number(digits)
 }
 
 // NAME=NUMBER: the code of the variable, and the number.

@@ -37,7 +37,7 @@ pub fn split_word(line: &[u8]) -> Option<(&[u8], &[u8])>
     Some(words.split_at(until(words, b' ')))
 }
 
-// Whether a word is `name`.
+// Whether a word is `name`: the two sides of `==` have one type, so the name is compared by its bytes.
 pub fn is(word: &[u8], name: &str) -> bool
     ensures { result ≡ bytes_eq word.now name.now }
 {
@@ -59,7 +59,8 @@ pub fn one_number(words: &[u8]) -> Option<u64>
     if no_words(rest) { number(a) } else { None }
 }
 
-// The two numbers that the words are: two words, which write a number each.
+// The two numbers that the words are: two words, which write a number each. Not one function of a count with the above:
+// a caller would take an array apart.
 pub fn two_numbers(words: &[u8]) -> Option<(u64, u64)>
     ensures { result ≡ two_numbers (words_of words.now) }
 {
@@ -72,6 +73,7 @@ pub fn two_numbers(words: &[u8]) -> Option<(u64, u64)>
 }
 
 // The number that a word writes in decimal digits, if it is below 2^64. Zeros may stand in front: 007 is 7.
+// A sign may not, so this is no `parse`, which takes a +.
 pub fn number(word: &[u8]) -> Option<u64>
     ensures { result ≡ numeral word.now }
 {
