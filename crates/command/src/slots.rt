@@ -8,7 +8,7 @@ ghost use Rattle.command.specs.Slots.{worth, assignment, assigned, listed, named
 use reader::variable;
 use sheet::{Node, Sheet};
 use std::alloc::{AllocError, Global};
-use text::{number, split_word, until};
+use text::{Words, number, split_word, until};
 
 // The number behind the =.
 fn worth(behind: &[u8]) -> Option<u64>
@@ -51,13 +51,11 @@ fn listed(heap: Global, words: &[u8]) -> Result<Option<Vec<u64>>, AllocError>
     ensures { IfOk result (λ o. option_map vec_items o ≡ listed [] (words_of words.now)) }
 {
     let mut slots = Vec::new(heap);
-    let mut rest = words;
-    while let Some((word, more)) = split_word(rest) {
+    for word in Words::new(words) {
         let Some(n) = number(word) else {
             return Ok(None);
         };
         slots.push(n)?;
-        rest = more;
     }
     Ok(Some(slots))
 }
@@ -79,12 +77,10 @@ fn named(
     ensures { IfOk result (λ o. option_map vec_items o ≡ named (nodes_of sheet.now) (replicate (up_to (nodes_of sheet.now) m) 0) (words_of words.now)) }
 {
     let mut slots = vec![in heap; 0u64; up_to(sheet, m)]?;
-    let mut rest = words;
-    while let Some((word, more)) = split_word(rest) {
+    for word in Words::new(words) {
         let Some(()) = assign(sheet, &mut slots, word) else {
             return Ok(None);
         };
-        rest = more;
     }
     Ok(Some(slots))
 }

@@ -11,7 +11,7 @@ use crate::answer::{Answer, Error};
 use crate::desk::Desk;
 use command::{Verb, parse};
 use std::alloc::{AllocError, Global};
-use text::split_line;
+use text::Lines;
 
 // What a line answers: nothing, if it is empty or a comment.
 fn answer(
@@ -35,14 +35,12 @@ pub fn transcribe(heap: Global, verbs: &[Verb], script: &[u8]) -> Result<String,
 {
     let mut desk = Desk::new(heap)?;
     let mut out = String::new(heap);
-    let mut rest = script;
-    while let Some((line, more)) = split_line(rest) {
+    for line in Lines::new(script) {
         match answer(heap, &mut desk, verbs, line)? {
             None => {}
             Some(Ok(answer)) => out.writeln(answer)?,
             Some(Err(error)) => out.writeln(error)?,
         }
-        rest = more;
     }
     Ok(out)
 }
