@@ -7,7 +7,7 @@ ghost use Rattle.desk.specs.Desks.{cleared};
 ghost use Rattle.desk.specs.Scripts.{line_step, transcript};
 ghost use Rattle.desk.specs.View.{desk_of};
 
-use crate::answer::{Answer, Error};
+use crate::answer::{Error, Reply};
 use crate::desk::Desk;
 use command::{Verb, parse};
 use std::alloc::{AllocError, Global};
@@ -19,7 +19,7 @@ fn answer(
     desk: &mut Desk,
     verbs: &[Verb],
     line: &[u8],
-) -> Result<Option<Result<Answer, Error>>, AllocError>
+) -> Result<Option<Reply>, AllocError>
     ensures { IfOk result (λ o. (desk_of desk.new, option_map replied o) ≡ line_step verbs.now (desk_of desk.old) line.now) }
 {
     match parse(verbs, line) {
