@@ -1,9 +1,9 @@
 // Closing a draft.
-ghost use Rattle.std.specs.Prelude.{◌≡◌, Ok, Err};
-ghost use Rattle.frames.specs.Tests.{first_pair, word, rising};
+ghost use Rattle.std.specs.Prelude.{◌≡◌, ℕ, Bool, Ok, Err};
+ghost use Rattle.frames.specs.Tests.{first_pair, word, rising, Says};
 ghost use Rattle.frames.specs.Closing.{begun, linked, closure, cyclic, gap, amiss, closing};
 ghost use Rattle.frames.specs.Laws.{Drawn, Reason};
-ghost use Rattle.frames.specs.View.{draft_of, frame_of, closed_of};
+ghost use Rattle.frames.specs.View.{Made, draft_of, frame_of, closed_of};
 
 use crate::draft::Draft;
 use crate::frame::Frame;
@@ -12,30 +12,34 @@ use crate::relation::Relation;
 use crate::test::{first_pair, word_of};
 
 impl Relation {
+    // The relation of the same elements that has the pairs that pass.
+    fn of_pairs<F: Fn(u8, u8) -> bool>(self, test: F) -> Relation
+        requires { F.IsAlwaysCallable test }
+        ensures { (says : ℕ → ℕ → Bool) → Says (F.post test) says → Made self (word says) result }
+    {
+        Relation {
+            size: self.size,
+            word: word_of(test),
+        }
+    }
+
     // The lines, and each element below itself.
     fn begun(self) -> Relation
-        ensures same_size { result.size ≡ self.size }
-        ensures word { result.word ≡ word (begun self.size self.word) }
+        ensures { Made self (word (begun self.size self.word)) result }
     {
-        let size = self.size;
-        let word = word_of(|a, b| a < size && b < size && (a == b || self.leq(a, b)));
-        Relation { size, word }
+        self.of_pairs(|a, b| a < self.size && b < self.size && (a == b || self.leq(a, b)))
     }
 
     // The relation with what goes by way of k.
     fn linked(self, k: u8) -> Relation
-        ensures same_size { result.size ≡ self.size }
-        ensures word { result.word ≡ word (linked self.word k) }
+        ensures { Made self (word (linked self.word k)) result }
     {
-        let size = self.size;
-        let word = word_of(|a, b| self.leq(a, b) || (self.leq(a, k) && self.leq(k, b)));
-        Relation { size, word }
+        self.of_pairs(|a, b| self.leq(a, b) || (self.leq(a, k) && self.leq(k, b)))
     }
 
     // The order that the lines make.
     fn closure(self) -> Relation
-        ensures same_size { result.size ≡ self.size }
-        ensures word { result.word ≡ closure self.size self.word }
+        ensures { Made self (closure self.size self.word) result }
     {
         (0..self.size).fold(self.begun(), Relation::linked)
     }
