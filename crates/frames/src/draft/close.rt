@@ -44,22 +44,27 @@ impl Relation {
         (0..self.size).fold(self.begun(), Relation::linked)
     }
 
+    // The first two elements that pass, the smaller first.
+    fn first_rising<F: Fn(u8, u8) -> bool>(self, test: F) -> Option<(u8, u8)>
+        requires { F.IsAlwaysCallable test }
+        ensures { (says : ℕ → ℕ → Bool) → Says (F.post test) says → result ≡ first_pair (rising self.size says) }
+    {
+        first_pair(|a, b| a < b && b < self.size && test(a, b))
+    }
+
     // The first two elements that are below each other.
     fn first_cycle(self) -> Option<(u8, u8)>
         ensures { result ≡ first_pair (rising self.size (cyclic self.word)) }
     {
-        first_pair(|a, b| a < b && b < self.size && self.leq(a, b) && self.leq(b, a))
+        self.first_rising(|a, b| self.leq(a, b) && self.leq(b, a))
     }
 
     // The first two elements that lack a join or a meet.
     fn first_gap(self) -> Option<(u8, u8)>
         ensures { result ≡ first_pair (rising self.size (gap self.size self.word)) }
     {
-        first_pair(|a, b| {
-            a < b
-                && b < self.size
-                && !(self.bound(true, a, b).is_some() && self.bound(false, a, b).is_some())
-        })
+        self.first_rising(|a, b| self.bound(true, a, b).is_none()
+            || self.bound(false, a, b).is_none())
     }
 
     // Why the order is no lattice.
