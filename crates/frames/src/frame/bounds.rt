@@ -58,6 +58,6 @@ impl Lattice for Frame {
         ensures compares { Compares (frame (frame_of self.now)) a b result }
         ensures order { Orders (frame_of self.now) a b result }
     {
-        self.admits(a) && self.admits(b) && self.order.leq(a, b)
+        self.order.leq(a, b)
     }
 }
