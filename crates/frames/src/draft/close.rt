@@ -1,88 +1,12 @@
 // Closing a draft.
-ghost use Rattle.std.specs.Prelude.{◌≡◌, ℕ, Bool, Ok, Err};
-ghost use Rattle.frames.specs.Tests.{first_pair, word, rising, Says};
-ghost use Rattle.frames.specs.Closing.{begun, linked, closure, cyclic, gap, amiss, closing};
+ghost use Rattle.std.specs.Prelude.{◌≡◌, Ok, Err};
+ghost use Rattle.frames.specs.Closing.{closing};
 ghost use Rattle.frames.specs.Laws.{Drawn, Reason};
-ghost use Rattle.frames.specs.View.{Made, draft_of, frame_of, closed_of};
+ghost use Rattle.frames.specs.View.{draft_of, frame_of, closed_of};
 
 use crate::draft::Draft;
 use crate::frame::Frame;
 use crate::refusal::Refusal;
-use crate::relation::Relation;
-use crate::test::{first_pair, word_of};
-
-impl Relation {
-    // The relation of the same elements that has the pairs that pass.
-    fn of_pairs<F: Fn(u8, u8) -> bool>(self, test: F) -> Relation
-        requires { F.IsAlwaysCallable test }
-        ensures { (says : ℕ → ℕ → Bool) → Says (F.post test) says → Made self (word says) result }
-    {
-        Relation {
-            size: self.size,
-            word: word_of(test),
-        }
-    }
-
-    // The lines, and each element below itself.
-    fn begun(self) -> Relation
-        ensures { Made self (word (begun self.size self.word)) result }
-    {
-        self.of_pairs(|a, b| a < self.size && b < self.size && (a == b || self.leq(a, b)))
-    }
-
-    // The relation with what goes by way of k.
-    fn linked(self, k: u8) -> Relation
-        ensures { Made self (word (linked self.word k)) result }
-    {
-        self.of_pairs(|a, b| self.leq(a, b) || (self.leq(a, k) && self.leq(k, b)))
-    }
-
-    // The order that the lines make.
-    fn closure(self) -> Relation
-        ensures { Made self (closure self.size self.word) result }
-    {
-        (0..self.size).fold(self.begun(), Relation::linked)
-    }
-
-    // The first two elements that pass, the smaller first.
-    fn first_rising<F: Fn(u8, u8) -> bool>(self, test: F) -> Option<(u8, u8)>
-        requires { F.IsAlwaysCallable test }
-        ensures { (says : ℕ → ℕ → Bool) → Says (F.post test) says → result ≡ first_pair (rising self.size says) }
-    {
-        first_pair(|a, b| a < b && b < self.size && test(a, b))
-    }
-
-    // The first two elements that are below each other.
-    fn first_cycle(self) -> Option<(u8, u8)>
-        ensures { result ≡ first_pair (rising self.size (cyclic self.word)) }
-    {
-        self.first_rising(|a, b| self.leq(a, b) && self.leq(b, a))
-    }
-
-    // The first two elements that lack a join or a meet.
-    fn first_gap(self) -> Option<(u8, u8)>
-        ensures { result ≡ first_pair (rising self.size (gap self.size self.word)) }
-    {
-        self.first_rising(|a, b| self.bound(true, a, b).is_none()
-            || self.bound(false, a, b).is_none())
-    }
-
-    // Why the order is no lattice.
-    #[tactic(auto, unfolding(crate::specs::Closing::amiss))]
-    fn amiss(self) -> Option<Refusal>
-        ensures { result ≡ amiss self.size self.word }
-    {
-        if let Some((a, b)) = self.first_cycle() {
-            return Some(Refusal::Cycle(a, b));
-        }
-        let (a, b) = self.first_gap()?;
-        if self.bound(true, a, b).is_some() {
-            Some(Refusal::NoMeet(a, b))
-        } else {
-            Some(Refusal::NoJoin(a, b))
-        }
-    }
-}
 
 impl Draft {
     // The frame in which a is below b where a chain of lines leads from a to b; or the draft as it was, if that is no lattice.

@@ -1,6 +1,13 @@
-// Tests of pairs of numbers below 8. The pair (a, b) has the place 8a + b, so that places rise by a, and then by b.
-ghost use Rattle.std.specs.Prelude.{◌≡◌, ℕ, Bool};
+// Pairs of numbers below 8. The pair (a, b) has the place 8a + b, so that places rise by a, and then by b.
+ghost use Rattle.std.specs.Prelude.{◌≡◌, ◌+◌, ◌*◌, ℕ, Bool};
 ghost use Rattle.frames.specs.Tests.{first_pair, word, Says};
+
+// The place of a pair.
+pub(crate) fn place(a: u8, b: u8) -> u32
+    ensures { result ≡ 8 * a + b }
+{
+    8 * u32::from(a) + u32::from(b)
+}
 
 // The first pair that passes.
 pub(crate) fn first_pair<F: Fn(u8, u8) -> bool>(test: F) -> Option<(u8, u8)>

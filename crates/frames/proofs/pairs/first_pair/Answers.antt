@@ -1,7 +1,7 @@
 use Rattle.std.proofs.Common.{◌≡◌, ◌/◌, ◌%◌, ap, ◌∙◌, rules, arith}
 use Rattle.frames.specs.Tests.{first, at, pair_at}
 use Rattle.frames.proofs.Searches.{first_of_find}
-use Rattle.frames.proofs.test.first_pair.Goals as goal
+use Rattle.frames.proofs.pairs.first_pair.Goals as goal
 
 pub returns : goal.returns
 returns g c =
