@@ -16,9 +16,9 @@ impl Draft {
         ensures law { elim result [ Ok f ↦ Drawn (draft_of self) (frame_of f) | Err e ↦ Reason (draft_of self) e.1 ] }
     {
         let order = self.lines.closure();
-        match order.amiss() {
-            Some(refusal) => Err((self, refusal)),
-            None => Ok(Frame { order }),
+        match order.check() {
+            Ok(()) => Ok(Frame { order }),
+            Err(refusal) => Err((self, refusal)),
         }
     }
 }

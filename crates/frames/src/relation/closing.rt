@@ -1,5 +1,6 @@
 // The order that lines make, and why an order is no lattice.
 ghost use Rattle.std.specs.Prelude.{◌≡◌, ℕ, Bool};
+ghost use Rattle.std.specs.Result.{result_err};
 ghost use Rattle.frames.specs.Tests.{first_pair, word, rising, Says};
 ghost use Rattle.frames.specs.Closing.{begun, linked, closure, cyclic, gap, amiss};
 ghost use Rattle.frames.specs.View.{Made};
@@ -53,19 +54,18 @@ impl Relation {
             || self.bound(false, a, b).is_none())
     }
 
-    // Why the order is no lattice.
+    // Refuses an order that is no lattice.
     #[tactic(auto, unfolding(crate::specs::Closing::amiss))]
-    pub(crate) fn amiss(self) -> Option<Refusal>
-        ensures { result ≡ amiss self.size self.word }
+    pub(crate) fn check(self) -> Result<(), Refusal>
+        ensures { result_err result ≡ amiss self.size self.word }
     {
         if let Some((a, b)) = self.first_cycle() {
-            return Some(Refusal::Cycle(a, b));
+            return Err(Refusal::Cycle(a, b));
         }
-        let (a, b) = self.first_gap()?;
-        if self.bound(true, a, b).is_some() {
-            Some(Refusal::NoMeet(a, b))
-        } else {
-            Some(Refusal::NoJoin(a, b))
+        match self.first_gap() {
+            None => Ok(()),
+            Some((a, b)) if self.bound(true, a, b).is_some() => Err(Refusal::NoMeet(a, b)),
+            Some((a, b)) => Err(Refusal::NoJoin(a, b)),
         }
     }
 }

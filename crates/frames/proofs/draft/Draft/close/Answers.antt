@@ -22,7 +22,7 @@ invariant_of-result c =
     let D = draft_of c.args.self in
     let n = c.closure-order.result.size in
     let w = c.closure-order.result.word in
-    let d = drawn c.args.self c.closure-order.result c.closure-order.ensures c.in-None.ensures in
+    let d = drawn c.args.self c.closure-order.result c.closure-order.ensures c.in-Ok.ensures in
     let decides : (a b : ℕ) → a < n → b < n → Decides (le w false a b) (Chain D a b) = λ a b p q. d.decides a b (omega (arith, d.same_size)) (omega (arith, d.same_size)) in
     let o = d.lattice.order in
     record {
@@ -32,5 +32,5 @@ invariant_of-result c =
       complete = complete_by n w (Chain D) decides d.lattice;
     }
 
-pub returns-in-None-clause-law : goal.returns-in-None-clause-law
-returns-in-None-clause-law c = drawn c.args.self c.closure-order.result c.closure-order.ensures c.in-None.ensures
+pub returns-in-Ok-clause-law : goal.returns-in-Ok-clause-law
+returns-in-Ok-clause-law c = drawn c.args.self c.closure-order.result c.closure-order.ensures c.in-Ok.ensures
