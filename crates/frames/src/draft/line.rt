@@ -23,7 +23,7 @@ impl Draft {
             return Err(Refusal::Size);
         }
         Ok(Draft {
-            lines: Relation::none(n as u8),
+            lines: Relation::empty(n as u8),
         })
     }
 

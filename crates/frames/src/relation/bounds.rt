@@ -1,6 +1,6 @@
 // Reading a relation: its size, what is below what, and greatest lower bounds.
 // A method with `up` looks at the relation from below, or from above where `up`: then what it says of meets it says of joins.
-// It is a bool, since the definitions and a frame's ghost field `complete` speak of it as one.
+// `up` is a bool, since the definitions and a frame's ghost field `complete` speak of it as one.
 ghost use Rattle.std.specs.Prelude.{◌≡◌, false};
 ghost use Rattle.frames.specs.Order.{le, follows, best, bound};
 
@@ -15,7 +15,8 @@ impl Relation {
         self.size
     }
 
-    // Whether a is below b, if both are elements. Of other numbers it answers what the bit at their place says, and past the last bit no: callers ask of elements only, and so none has to require that they are.
+    // Whether a is below b, if both are elements.
+    // Callers ask of elements only. A `requires` that says so would stand in five contracts, so other numbers get an answer too: the bit at their place, or no past the last bit.
     #[tactic(auto, using(crate::proofs::Words::bit_read), unfolding(crate::specs::Order::le))]
     pub(crate) fn leq(self, a: u8, b: u8) -> bool
         ensures { result ≡ le self.word false a b }

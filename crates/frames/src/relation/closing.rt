@@ -50,8 +50,9 @@ impl Relation {
     fn first_gap(self) -> Option<(u8, u8)>
         ensures { result ≡ first_pair (rising self.size (gap self.size self.word)) }
     {
-        self.first_rising(|a, b| self.bound(true, a, b).is_none()
-            || self.bound(false, a, b).is_none())
+        self.first_rising(|a, b| {
+            self.bound(true, a, b).is_none() || self.bound(false, a, b).is_none()
+        })
     }
 
     // Refuses an order that is no lattice.

@@ -8,11 +8,11 @@ use crate::relation::Relation;
 
 impl Relation {
     // The relation of the numbers below size that has no pairs.
-    pub(crate) fn none(size: u8) -> Relation
+    pub(crate) fn empty(size: u8) -> Relation
         requires some { 0 < size }
         requires few { size ≤ 8 }
         ensures size { result.size ≡ size }
-        ensures no_word { result.word ≡ 0 }
+        ensures word { result.word ≡ 0 }
     {
         Relation { size, word: 0 }
     }

@@ -1,4 +1,4 @@
-use Rattle.std.proofs.Common.{◌≡◌, ℕ, ◌+◌, ◌*◌, ◌%◌, ◌^◌, sym, refl, subst, arith}
+use Rattle.std.proofs.Common.{◌≡◌, ◌+◌, ◌*◌, ◌^◌, refl, subst, arith}
 use lib.Bits.{bit_or}
 use Rattle.frames.specs.Drafts.{Drafted}
 use Rattle.frames.specs.Laws.{Lined}
