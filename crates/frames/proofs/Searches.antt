@@ -1,5 +1,5 @@
 -- What std's searches over the numbers below n answer, where the closure is a test.
-use Rattle.std.proofs.Common.{◌≡◌, ℕ, ◌+◌, ◌-◌, ◌≤◌, ◌<◌, Bool, true, false, List, [], ◌∷◌, ◌++◌, subst, length, get_or, Some, None, Option, zero, suc, refl, sym, ap, ◌∙◌, add-one, arith}
+use Rattle.std.proofs.Common.{◌≡◌, ℕ, ◌+◌, ◌-◌, ◌/◌, ◌%◌, ◌≤◌, ◌<◌, Bool, true, false, List, [], ◌∷◌, ◌++◌, subst, map, length, get_or, Some, None, Option, zero, suc, refl, sym, ap, ◌∙◌, add-one, arith}
 use Rattle.std.specs.Bool.{⊤, MatchBool}
 use Rattle.std.specs.Fn.{Called, CalledAt}
 use Rattle.std.specs.Iterator.{AlwaysYields, YieldsThen, Drains}
@@ -7,13 +7,13 @@ use Rattle.std.specs.List.{range_with_len, FoldsTo, AllWithin, HoldsAt}
 use Rattle.std.specs.Option.{MatchOption}
 use Rattle.std.specs.declared.ops.Range.{Range}
 use Rattle.std.proofs.iter.Yields.{nat_range_steps, Range-gives}
-use Rattle.std.proofs.lemmas.Iterator.{YieldsList-from_range, cases_from_all, first_from_Range}
+use Rattle.std.proofs.lemmas.Iterator.{YieldsList, YieldsList-from_range, cases_from_all, first_from_find, first_from_Range}
 use Rattle.std.proofs.lemmas.Fn.{fold_over}
 use Rattle.std.proofs.lemmas.List.{length_push, get_or_push, get_or_append_left}
-use Rattle.std.proofs.lemmas.List.FromFn.{length-range_with_len, get_or-range_with_len}
+use Rattle.std.proofs.lemmas.List.FromFn.{length-range_with_len, get_or-range_with_len, length-map-range_with_len, get_or-map-range_with_len}
 use denote.Param.Members.{Mut}
 use denote.Ref.{Bor}
-use Rattle.frames.specs.Tests.{every, first}
+use Rattle.frames.specs.Tests.{every, first, at, pair_at, first_pair}
 use Rattle.frames.specs.Finding.{every_all, every_fails, first_start, first_more, first_hit}
 
 nth : (n k : ℕ) → k < n → get_or (range_with_len 0 n) k 0 ≡ k
@@ -58,6 +58,49 @@ first_of_find n p u f r ran says =
     first_by n p r
     (first_from_Range (record { start = 0; end = n }) u f r (λ x. x < n → p x ≡ true) (λ x. x < n → p x ≡ false) ran
     (λ x q k h. sym ((says x true q k).1 h)) (λ x q k. let s = says x false q k in (s.0, λ h. sym (s.1 h))))
+
+module _ (p : ℕ → ℕ → Bool) where
+  -- p answers r at the pair s, if that is one of numbers below 8
+  abbrev Passes : Bool → ℕ × ℕ → Type 0
+  Passes r s = s.0 < 8 → s.1 < 8 → p s.0 s.1 ≡ r
+
+  abbrev by_place : ℕ → ℕ × ℕ
+  by_place q = (q / 8, q % 8)
+
+  abbrev pairs : List (ℕ × ℕ)
+  pairs = map by_place (range_with_len 0 64)
+
+  long : length pairs ≡ 64
+  long = length-map-range_with_len by_place 0 64
+
+  nth_pair : (q : ℕ) → q < 64 → get_or pairs q (0, 0) ≡ by_place q
+  nth_pair q h = get_or-map-range_with_len by_place 0 64 q q (0, 0) h (omega arith)
+
+  at_nth : (r : Bool) (q : ℕ) → q < 64 → Passes r (get_or pairs q (0, 0)) → at p q ≡ r
+  at_nth r q h says = (subst (Passes r) (nth_pair q h) says) (omega arith) (omega arith)
+
+  pair_by : (r : Option (ℕ × ℕ))
+      → MatchOption r (AllWithin (Passes false) pairs 0 (length pairs))
+      (λ s. Passes true s × (i : ℕ) × (i < length pairs) × HoldsAt (λ y. y ≡ s) pairs i × AllWithin (Passes false) pairs 0 i)
+      → r ≡ first_pair p
+  pair_by None h = ap pair_at (sym (first_fails 64 (at p) (λ k lt. at_nth false k lt (h k (0, 0) (omega arith) (omega (arith, long))))))
+  pair_by (Some s) h =
+      let i = h.1 in
+      let lt : i < 64 = omega (arith, h.2, long) in
+      let here : get_or pairs i (0, 0) ≡ s = h.3 (0, 0) in
+      let hit : first 64 (at p) ≡ Some i =
+      first_hit 64 i (at p) lt (first_fails i (at p) (λ k l. at_nth false k (omega arith) (h.4 k (0, 0) (omega arith) l))) (at_nth true i lt (subst (Passes true) (sym here) h.0)) in
+      ap Some (sym here ∙ nth_pair i lt) ∙ ap pair_at (sym hit)
+
+  -- `find` over the pairs by their places
+  pub pair_of_find : {S F : Type 0} {steps : S → Option (ℕ × ℕ) → S → Type 0} {g : Mut F (Bor (ℕ × ℕ) × Unit {0}) Bool} {s : S} (u : S) (f : F) (r : Option (ℕ × ℕ))
+      → (xs : List (ℕ × ℕ)) × (j : F) × YieldsThen steps s xs r u × FoldsTo (λ p x q. CalledAt g p x false q) f xs j × MatchOption r ⊤ (λ x. (h : F) × CalledAt g j x true h)
+      → YieldsList steps (λ x. x) s (map (λ q. (q / 8, q % 8)) (range_with_len 0 64))
+      → ((x : ℕ × ℕ) (b : Bool) (q : F) → CalledAt g f x b q → (q ≡ f) × (x.0 < 8 → x.1 < 8 → b ≡ p x.0 x.1)) → r ≡ first_pair p
+  pair_of_find u f r ran yields says =
+      pair_by r
+      (first_from_find u f r (Passes true) (Passes false) ran yields
+      (λ x q k a b. sym ((says x true q k).1 a b)) (λ x q k. let t = says x false q k in (t.0, λ a b. sym (t.1 a b))))
 
 -- K holds of what was kept over the numbers in ys, if these are the first ones below n
 Counted : {C : Type 0} → ℕ → (ℕ → C → Type 0) → List ℕ → C → Type 0

@@ -1,11 +1,16 @@
 -- What a draft, a frame, and the answers that hold them are to callers.
-use Rattle.std.specs.Prelude.{Ok, Err, Result}
+use Rattle.std.specs.Prelude.{◌≡◌, ℕ, Ok, Err, Result}
 use Rattle.refused.specs.Refused.{Refused}
 use Rattle.frames.specs.declared.refusal.Refusal.{Refusal}
+use Rattle.frames.specs.declared.relation.Relation.{Relation}
 use Rattle.frames.specs.declared.draft.Draft.{Draft}
 use Rattle.frames.specs.declared.frame.Frame.{Frame}
 use Rattle.frames.specs.Refused.{row}
 use Rattle.frames.specs.Drafts.{Drafted, Framed}
+
+-- S has the elements of R, and the pairs of the word w
+abbrev pub Made : Relation → ℕ → Relation → Type 0
+Made R w S = ◌≡◌ {A = ℕ × ℕ} (S.size, S.word) (R.size, w)
 
 abbrev pub draft_of : Draft → Drafted
 draft_of d = record { size = d.lines.size; lines = d.lines.word }

@@ -4,7 +4,7 @@ mod line;
 
 use crate::relation::Relation;
 
-// An element is below another in `lines` where a line leads up to it.
+// In `lines` a is below b where there is a line from a up to b.
 #[derive(Drop)]
 pub struct Draft {
     lines: Relation,

@@ -3,9 +3,9 @@
 
 mod draft;
 mod frame;
+mod pairs;
 mod refusal;
 mod relation;
-mod test;
 
 pub use draft::Draft;
 pub use frame::Frame;

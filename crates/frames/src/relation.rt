@@ -1,55 +1,15 @@
-// Relations of numbers below 8, each in one word: the lines of a draft, and the order of a frame.
-// A method with `up` looks at the relation from below, or from above where `up`: then what it says of meets it says of joins.
-ghost use Rattle.std.specs.Prelude.{◌≡◌, ◌<◌, ◌≤◌, false};
-ghost use Rattle.frames.specs.Order.{le, follows, best, bound};
+// Relations of numbers below 8: the lines of a draft, and the order of a frame.
+ghost use Rattle.std.specs.Prelude.{◌<◌, ◌≤◌};
+
+mod bounds;
+mod closing;
+mod making;
 
 // The elements are the numbers below `size`, and the bit of `word` worth 2^(8a + b) says that a is below b.
 #[derive(Clone, Copy)]
 pub(crate) struct Relation {
-    pub(crate) size: u8,
-    pub(crate) word: u64,
+    size: u8,
+    word: u64,
     ghost some: { 0 < size },
     ghost few: { size ≤ 8 },
-}
-
-impl Relation {
-    // Whether a is below b, if both are elements.
-    #[tactic(auto, using(crate::proofs::Words::bit_read), unfolding(crate::specs::Order::le))]
-    pub(crate) fn leq(self, a: u8, b: u8) -> bool
-        ensures { result ≡ le self.word false a b }
-    {
-        let place = 8 * u32::from(a) + u32::from(b);
-        self.word.checked_shr(place).unwrap_or(0) % 2 == 1
-    }
-
-    // Whether a is below b, or above it where `up`.
-    #[tactic(auto, unfolding(crate::specs::Order::le))]
-    fn faces(self, up: bool, a: u8, b: u8) -> bool
-        ensures { result ≡ le self.word up a b }
-    {
-        if up { self.leq(b, a) } else { self.leq(a, b) }
-    }
-
-    // Whether d, if it is below a and b, is below c.
-    fn stays_below(self, up: bool, a: u8, b: u8, c: u8, d: u8) -> bool
-        ensures { result ≡ follows self.word up a b c d }
-    {
-        !self.faces(up, d, a) || !self.faces(up, d, b) || self.faces(up, d, c)
-    }
-
-    // Whether c is the greatest lower bound of a and b.
-    fn is_best(self, up: bool, a: u8, b: u8, c: u8) -> bool
-        ensures { result ≡ best self.size self.word up a b c }
-    {
-        self.faces(up, c, a)
-            && self.faces(up, c, b)
-            && (0..self.size).all(|d| self.stays_below(up, a, b, c, d))
-    }
-
-    // The greatest lower bound of a and b.
-    pub(crate) fn bound(self, up: bool, a: u8, b: u8) -> Option<u8>
-        ensures { result ≡ bound self.size self.word up a b }
-    {
-        (0..self.size).find(|&c| self.is_best(up, a, b, c))
-    }
 }

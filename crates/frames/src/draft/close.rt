@@ -1,79 +1,12 @@
 // Closing a draft.
 ghost use Rattle.std.specs.Prelude.{◌≡◌, Ok, Err};
-ghost use Rattle.frames.specs.Tests.{first_pair, word, rising};
-ghost use Rattle.frames.specs.Closing.{begun, linked, closure, cyclic, gap, amiss, closing};
+ghost use Rattle.frames.specs.Closing.{closing};
 ghost use Rattle.frames.specs.Laws.{Drawn, Reason};
 ghost use Rattle.frames.specs.View.{draft_of, frame_of, closed_of};
 
 use crate::draft::Draft;
 use crate::frame::Frame;
 use crate::refusal::Refusal;
-use crate::relation::Relation;
-use crate::test::{first_pair, word_of};
-
-impl Relation {
-    // The lines, and each element below itself.
-    fn begun(self) -> Relation
-        ensures same_size { result.size ≡ self.size }
-        ensures word { result.word ≡ word (begun self.size self.word) }
-    {
-        let size = self.size;
-        let word = word_of(|a, b| a < size && b < size && (a == b || self.leq(a, b)));
-        Relation { size, word }
-    }
-
-    // The relation with what goes by way of k.
-    fn linked(self, k: u8) -> Relation
-        ensures same_size { result.size ≡ self.size }
-        ensures word { result.word ≡ word (linked self.word k) }
-    {
-        let size = self.size;
-        let word = word_of(|a, b| self.leq(a, b) || (self.leq(a, k) && self.leq(k, b)));
-        Relation { size, word }
-    }
-
-    // The order that the lines make.
-    fn closure(self) -> Relation
-        ensures same_size { result.size ≡ self.size }
-        ensures word { result.word ≡ closure self.size self.word }
-    {
-        (0..self.size).fold(self.begun(), Relation::linked)
-    }
-
-    // The first two elements that are below each other.
-    fn first_cycle(self) -> Option<(u8, u8)>
-        ensures { result ≡ first_pair (rising self.size (cyclic self.word)) }
-    {
-        first_pair(|a, b| a < b && b < self.size && self.leq(a, b) && self.leq(b, a))
-    }
-
-    // The first two elements that lack a join or a meet.
-    fn first_gap(self) -> Option<(u8, u8)>
-        ensures { result ≡ first_pair (rising self.size (gap self.size self.word)) }
-    {
-        first_pair(|a, b| {
-            a < b
-                && b < self.size
-                && !(self.bound(true, a, b).is_some() && self.bound(false, a, b).is_some())
-        })
-    }
-
-    // Why the order is no lattice.
-    #[tactic(auto, unfolding(crate::specs::Closing::amiss))]
-    fn amiss(self) -> Option<Refusal>
-        ensures { result ≡ amiss self.size self.word }
-    {
-        if let Some((a, b)) = self.first_cycle() {
-            return Some(Refusal::Cycle(a, b));
-        }
-        let (a, b) = self.first_gap()?;
-        if self.bound(true, a, b).is_some() {
-            Some(Refusal::NoMeet(a, b))
-        } else {
-            Some(Refusal::NoJoin(a, b))
-        }
-    }
-}
 
 impl Draft {
     // The frame in which a is below b where a chain of lines leads from a to b; or the draft as it was, if that is no lattice.
@@ -83,9 +16,9 @@ impl Draft {
         ensures law { elim result [ Ok f ↦ Drawn (draft_of self) (frame_of f) | Err e ↦ Reason (draft_of self) e.1 ] }
     {
         let order = self.lines.closure();
-        match order.amiss() {
-            Some(refusal) => Err((self, refusal)),
-            None => Ok(Frame { order }),
+        match order.check() {
+            Ok(()) => Ok(Frame { order }),
+            Err(refusal) => Err((self, refusal)),
         }
     }
 }

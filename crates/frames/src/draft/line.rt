@@ -23,10 +23,7 @@ impl Draft {
             return Err(Refusal::Size);
         }
         Ok(Draft {
-            lines: Relation {
-                size: n as u8,
-                word: 0,
-            },
+            lines: Relation::empty(n as u8),
         })
     }
 
@@ -34,7 +31,7 @@ impl Draft {
     pub fn size(&self) -> u8
         ensures { result ≡ (draft_of self.now).size }
     {
-        self.lines.size
+        self.lines.size()
     }
 
     // Puts a below b.
@@ -42,11 +39,11 @@ impl Draft {
         ensures does { (draft_of self.new, told result) ≡ lining (draft_of self.old) a b }
         ensures law { OnOk result (Lined (draft_of self.old) a b (draft_of self.new)) }
     {
-        let size = u64::from(self.lines.size);
+        let size = u64::from(self.lines.size());
         if a >= size || b >= size {
             return Err(Refusal::Element);
         }
-        self.lines.word |= 1 << (8 * a + b);
+        self.lines.relate(a as u8, b as u8);
         Ok(())
     }
 }

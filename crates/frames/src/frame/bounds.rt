@@ -14,7 +14,7 @@ impl Frame {
     pub fn size(&self) -> u8
         ensures { result ≡ (frame_of self.now).size }
     {
-        self.order.size
+        self.order.size()
     }
 
     // The meet of two elements, or their join where `up`.
@@ -36,7 +36,7 @@ impl Lattice for Frame {
         ensures admits { Decides result ((frame (frame_of self.now)).admitted x) }
         ensures number { result ≡ nat_lt x (frame_of self.now).size }
     {
-        x < self.order.size
+        x < self.order.size()
     }
 
     fn meet(&self, a: u8, b: u8) -> u8
@@ -58,6 +58,6 @@ impl Lattice for Frame {
         ensures compares { Compares (frame (frame_of self.now)) a b result }
         ensures order { Orders (frame_of self.now) a b result }
     {
-        self.admits(a) && self.admits(b) && self.order.leq(a, b)
+        self.order.leq(a, b)
     }
 }

@@ -1,6 +1,6 @@
-use Rattle.std.proofs.Common.{◌≡◌, ℕ, ◌+◌, ◌*◌, ◌%◌, ◌^◌, sym, refl, subst, arith}
+use Rattle.std.proofs.Common.{◌≡◌, ◌+◌, ◌*◌, ◌^◌, refl, subst, arith}
 use lib.Bits.{bit_or}
-use Rattle.std.proofs.lemmas.Nat.{one_shl}
+use Rattle.frames.specs.Drafts.{Drafted}
 use Rattle.frames.specs.Laws.{Lined}
 use Rattle.frames.specs.View.{draft_of}
 use Rattle.frames.proofs.Words.{le_or}
@@ -12,8 +12,9 @@ returns-clause-law c =
     let few = d.lines.few in
     let a = c.args.a in
     let b = c.args.b in
-    let shifted : (1 * 2 ^ (8 * a + b)) % 2 ^ 64 ≡ 2 ^ (8 * a + b) = one_shl (8 * a + b) 64 (omega arith) in
-    subst (λ (v : ℕ). Lined (draft_of d) a b (record { size = d.lines.size; lines = bit_or d.lines.word v })) (sym shifted)
+    let D : Drafted = record { size = d.lines.size; lines = bit_or d.lines.word (2 ^ (8 * a + b)) } in
+    let drawn : D ≡ record { size = c.relate.new.self.size; lines = c.relate.new.self.word } = grind (arith, c.relate.ensures) in
+    subst (Lined (draft_of d) a b) drawn
     (record {
       same_size = refl;
       left = omega arith;

@@ -1,22 +1,29 @@
-use Rattle.std.proofs.Common.{◌≡◌, ℕ, sym, ap, ◌∙◌, rules}
+use Rattle.std.proofs.Common.{◌≡◌, ℕ, sym, ap, ◌+◌, ◌∙◌, rules, arith}
 use Rattle.frames.specs.declared.relation.Relation.{Relation}
 use Rattle.frames.specs.Tests.{word}
 use Rattle.frames.specs.Closing.{begun, linked, chained, closure}
+use Rattle.frames.specs.View.{Made}
 use Rattle.frames.proofs.Chains.{chained_none, chained_more}
 use Rattle.frames.proofs.Searches.{kept_of_fold}
 use Rattle.frames.proofs.relation.Relation.closure.Goals as goal
 
+-- what is made of what was made of R, where the two words are the next ones
+made_next : (R S T : Relation) (f : ℕ → ℕ) (w v : ℕ) → Made R w S → Made S (f S.word) T → v ≡ f w → Made R v T
+made_next R S T f w v made next same =
+    let word : S.word ≡ w = grind (arith, made) in
+    let turned : f S.word ≡ v = ap f word ∙ sym same in
+    grind (arith, made, next, turned)
+
 pub returns : goal.returns
 unfolding closure
 returns c =
-    let n = c.args.self.size in
-    let lines = word (begun n c.args.self.word) in
-    let K : ℕ → Relation → Type 0 = λ k order. (order.size ≡ n) × (order.word ≡ chained k lines) in
-    let h = kept_of_fold n K _ c.begun.result c.fold.result c.fold.ensures.ran (c.begun.ensures.same_size, c.begun.ensures.word ∙ sym (chained_none lines))
+    let R = c.args.self in
+    let lines = word (begun R.size R.word) in
+    kept_of_fold R.size (λ k order. Made R (chained k lines) order) _ c.begun.result c.fold.result c.fold.ensures.ran
+    (grind (arith, c.begun.ensures, chained_none lines))
     (λ k order next q call. (
       search rules,
       λ lt kept.
-          let turn : (next.size ≡ order.size) × (next.word ≡ word (linked order.word k)) = search rules in
-          (turn.0 ∙ kept.0, turn.1 ∙ ap (λ w. word (linked w k)) kept.1 ∙ sym (chained_more k lines)),
-    )) in
-    record { same_size = h.0; word = h.1 }
+          let turn : Made order (word (linked order.word k)) next = search rules in
+          made_next R order next (λ w. word (linked w k)) (chained k lines) (chained (k + 1) lines) kept turn (chained_more k lines),
+    ))

@@ -4,7 +4,7 @@ use Rattle.std.specs.Int.{from_bool}
 use Rattle.frames.specs.Tests.{at, word_below}
 use Rattle.frames.proofs.Words.{word_none, word_or}
 use Rattle.frames.proofs.Searches.{kept_of_fold}
-use Rattle.frames.proofs.test.word_of.Goals as goal
+use Rattle.frames.proofs.pairs.word_of.Goals as goal
 
 pub returns : goal.returns
 returns g c =
