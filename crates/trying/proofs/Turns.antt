@@ -6,6 +6,10 @@ use Rattle.sheet.specs.declared.node.Node.{Node}
 use Rattle.sheet.specs.declared.node.Node.TheVariants.{Variable}
 use Rattle.sheet.specs.Nodes.{node_at}
 use Rattle.sheet.proofs.Nodes.{order}
+use Rattle.lattice.specs.declared.lattice.Lattice.{Ghosts}
+use Rattle.sheet.specs.View.{nodes_of}
+use Rattle.trying.specs.declared.trying.Trial.{Trial}
+use Rattle.trying.specs.Trials.{means}
 use Rattle.trying.specs.Trying.{put, filled, Filled, Admitted, Ready}
 use Rattle.trying.proofs.Slots.{one_more, untouched}
 
@@ -49,3 +53,11 @@ module _ {E : Type 0} (m : Meaning E) (ns : List Node) where
             (λ d j h. let ne : j ≢ k = omega arith in subst m.admitted (sym (get_or-set_other t k j r d ne)) (turn.admitted d j h))
             (λ d. subst m.admitted (sym (get_or-set_same t k r d lt ∙ is)) (closed x y px py));
       }
+
+-- what a fill has left before its turn at k
+pub record Partway {L E : Type 0} {g : Ghosts L E} (k : ℕ) (before now : Trial L E g) : Type 0 where
+  pub lattice : now.lattice ≡ before.lattice
+  pub sheet : now.sheet ≡ before.sheet
+  pub end : now.end ≡ before.end
+  pub lender : now.slots.ghost_name ≡ before.slots.ghost_name
+  pub turn : Turn (means before) (nodes_of before.sheet.now) k before.slots.now now.slots.now
