@@ -35,11 +35,12 @@ struct Trial<'a, L: Lattice> {
 }
 
 impl<'a, L: Lattice> Trial<'a, L> {
-    ghost use Rattle.trying.specs.Trials.{NodeStrays, NodeReady, AllReady, FirstStrays, Fills};
+    ghost use Rattle.trying.specs.Trials.{nodes, NodeStrays, NodeReady, AllReady, FirstStray, Fills};
 
+    // The node of a number that is there.
     fn node(&self, k: usize) -> Node
         requires { k < self.now.end }
-        ensures is { result ≡ node_at (nodes_of self.now.sheet.now) k }
+        ensures is { result ≡ node_at (nodes self.now) k }
         ensures parts { PartsBelow k result }
     {
         self.sheet.node(k).unwrap()
@@ -55,7 +56,7 @@ impl<'a, L: Lattice> Trial<'a, L> {
 
     // The first variable that strays.
     fn stray(&self) -> Option<usize>
-        ensures { MatchOption result (AllReady self.now) (FirstStrays self.now) }
+        ensures { MatchOption result (AllReady self.now) (FirstStray self.now) }
     {
         (0..self.end).find(|&k| self.strays(k))
     }
@@ -63,7 +64,7 @@ impl<'a, L: Lattice> Trial<'a, L> {
     // Fills the slots of the meets and joins, each from the slots of its parts.
     fn fill(&mut self)
         requires { AllReady self.old }
-        ensures { Fills self.old self.new }
+        ensures { Fills self.old.end self.old self.new }
     {
         // By index: slot k is written from others of the same slice.
         for k in 0..self.end {

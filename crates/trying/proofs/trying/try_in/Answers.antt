@@ -13,6 +13,6 @@ returns g c =
     let v = c.args.v in
     let s = c.args.slots.now in
     let grant =
-    granted m ns u v _ s _ _ _ _ _ c.max.ensures c.in_ok-check.ensures c.in_default.ensures c.fill.ensures.filled c.fill.ensures.admitted
+    granted m ns u v _ s _ _ _ _ _ c.max.ensures c.in_ok-check.ensures c.in_default.ensures c.fill.ensures.slots c.fill.ensures.admitted
     c.index-slots-u.is c.index-slots-v.is (search rules) c.below.ensures in
     record { tried = grant; law = verdict m laws ns sheet.grounded sheet.distinct u v s _ _ grant }
