@@ -1,16 +1,16 @@
--- What one turn of the loops of trying adds: one more slot that is looked at, or filled.
+-- What one turn of a fill adds: one more slot.
 use Rattle.std.proofs.Common.{◌≡◌, ℕ, ◌+◌, ◌<◌, ◌≢◌, List, length, get_or, set, sym, ap, ◌∙◌, subst, ap₂, ⊎_elim, arith}
 use Rattle.std.proofs.lemmas.List.{get_or_default, get_or-set_same, get_or-set_other}
 use Rattle.free_lattice.specs.Lattices.{Meaning}
+use Rattle.lattice.specs.declared.lattice.Lattice.{Ghosts}
 use Rattle.sheet.specs.declared.node.Node.{Node}
 use Rattle.sheet.specs.declared.node.Node.TheVariants.{Variable}
 use Rattle.sheet.specs.Nodes.{node_at}
-use Rattle.sheet.proofs.Nodes.{order}
-use Rattle.lattice.specs.declared.lattice.Lattice.{Ghosts}
 use Rattle.sheet.specs.View.{nodes_of}
+use Rattle.sheet.proofs.Nodes.{order}
 use Rattle.trying.specs.declared.trying.Trial.{Trial}
-use Rattle.trying.specs.Trials.{means, nodes, AllReady, Kept, Fills}
 use Rattle.trying.specs.Trying.{put, filled, Admitted}
+use Rattle.trying.specs.Trials.{means, nodes, AllReady, Kept, Fills}
 use Rattle.trying.proofs.Slots.{one_more, untouched}
 
 -- what holds below k and at k

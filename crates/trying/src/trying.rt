@@ -23,7 +23,7 @@ fn check(sheet: &Sheet, u: usize, v: usize, n: usize) -> Result<(), Refusal>
     }
 }
 
-// A trial in a lattice: slot k belongs to node k, and the first `end` of them are tried.
+// A trial, in a lattice, of the nodes below `end`.
 #[derive(Drop)]
 struct Trial<'a, L: Lattice> {
     lattice: &'a L,

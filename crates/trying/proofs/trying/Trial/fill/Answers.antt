@@ -14,7 +14,7 @@ loop-k-preserved g c =
     let laws = g.met.L.Lattice.laws before.lattice.now in
     let k = c.loop-k.k in
     elim c.match-node.branch [
-      | in-Variable w ↦ turn_variable before now after k c.loop-k.invariant (search rules) _ w.in-Variable.ensures.is c.loop-k-test.true c.requires (search rules)
+      | in-Variable w ↦ turn_variable before now after k c.loop-k.invariant (search rules) _ w.in-Variable.ensures.is (omega arith) c.requires (search rules)
       | in-Meet w ↦
           turn_made before now after k c.loop-k.invariant (search rules) m.meet laws.meet_admitted (Meet _ _) _ _ (λ d l. refl) w.in-Meet.ensures.is w.in-Meet.ensures.parts _ _ w.meet.result
           (omega arith) w.index-self-a.is w.index-self-b.is (search rules) (search rules)
