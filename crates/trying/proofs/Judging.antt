@@ -81,19 +81,19 @@ module _ {E : Type 0} (m : Meaning E) (d : E) (ρ : ℕ → E) (ns : List Node) 
   pub filled_value : (k : ℕ) → k < n → get_or (fills n) k d ≡ value m ρ (term_at ns k)
   filled_value k lt = value_below (suc k) k (omega arith) lt
 
--- the answer b of the lattice for the slots x and y of the two nodes, n the later of which
-pub granted : {E : Type 0} (m : Meaning E) (ns : List Node) (u v n : ℕ) (s t : List E) (x y : E) (b : Bool) → n ≡ max u v → Ok tt ≡ checked ns u v (length s) → Ready m ns (n + 1) s
-    → Filled m ns (n + 1) s t → Admitted m (n + 1) t → x ≡ get_or t u x → y ≡ get_or t v y → (m.admitted x → m.admitted y → Decides b (Below m x y)) → Granted m ns u v s t b
-granted m ns u v n s t x y b later passed ready slots admitted ex ey says =
+-- the answer b of the lattice for the slots x and y of the two nodes, n the later of which; a fill left the slots t' as t
+pub granted : {E : Type 0} (m : Meaning E) (ns : List Node) (u v n : ℕ) (s t t' : List E) (x y : E) (b : Bool) → n ≡ max u v → Ok tt ≡ checked ns u v (length s) → Ready m ns (n + 1) s
+    → Filled m ns (n + 1) s t → Admitted m (n + 1) t → x ≡ get_or t' u x → y ≡ get_or t' v y → t' ≡ t → (m.admitted x → m.admitted y → Decides b (Below m x y)) → Granted m ns u v s t' b
+granted m ns u v n s t t' x y b later passed ready slots admitted ex ey same says =
     let fit = checked_fits ns u v (length s) (sym passed) in
-    let long : length t ≡ length s = ap length (slots x) ∙ length_filled m.meet m.join x ns s (n + 1) in
-    let px = subst m.admitted (sym ex) (admitted x u (omega arith)) in
-    let py = subst m.admitted (sym ey) (admitted y v (omega arith)) in
+    let long : length t' ≡ length s = ap length (same ∙ slots x) ∙ length_filled m.meet m.join x ns s (n + 1) in
+    let px = subst m.admitted (sym (ex ∙ ap (λ l. get_or l u x) same)) (admitted x u (omega arith)) in
+    let py = subst m.admitted (sym (ey ∙ ap (λ l. get_or l v y) same)) (admitted y v (omega arith)) in
     record {
       passed = sym passed;
       ready = subst (λ k. Ready m ns (k + 1) s) later ready;
-      slots = subst (λ k. Filled m ns (k + 1) s t) later slots;
-      below = λ d. subst₂ (λ x' y'. Decides b (Below m x' y')) (ex ∙ get_or_default t u x d (omega (arith, fit.room))) (ey ∙ get_or_default t v y d (omega (arith, fit.room))) (says px py);
+      slots = subst (λ k. Filled m ns (k + 1) s t') later (λ d. same ∙ slots d);
+      below = λ d. subst₂ (λ x' y'. Decides b (Below m x' y')) (ex ∙ get_or_default t' u x d (omega (arith, fit.room))) (ey ∙ get_or_default t' v y d (omega (arith, fit.room))) (says px py);
     }
 
 -- in a filling with admitted elements every term has an admitted value

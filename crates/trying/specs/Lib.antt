@@ -1,3 +1,4 @@
 pub mod Refused
 pub mod Trying
+pub mod Trials
 pub mod Numbers

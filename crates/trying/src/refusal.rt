@@ -16,7 +16,8 @@ pub enum Refusal {
 }
 
 impl Refusal {
-    // The number by which users know the refusal. A variant that carries a value has no number of its own to cast.
+    // The number by which users know the refusal.
+    // It and the text are written out: an enum whose variants carry values has no numbers to cast, and no derive states a text.
     pub fn number(self) -> u8
         ensures { result ≡ (row self).number }
     {

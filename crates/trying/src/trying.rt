@@ -4,7 +4,7 @@ ghost use Rattle.std.specs.Prelude.{◌≡◌, ◌<◌, ◌≤◌, length, Match
 ghost use Rattle.sheet.specs.Nodes.{node_at};
 ghost use Rattle.sheet.specs.View.{nodes_of};
 ghost use Rattle.trying.specs.Refused.{told};
-ghost use Rattle.trying.specs.Trying.{checked, PartsBelow, ReadyAt, Ready, Strays, Stray, Filled, Admitted, Tried, Judged};
+ghost use Rattle.trying.specs.Trying.{checked, PartsBelow, Tried, Judged};
 
 use crate::refusal::Refusal;
 use lattice::Lattice;
@@ -23,50 +23,56 @@ fn check(sheet: &Sheet, u: usize, v: usize, n: usize) -> Result<(), Refusal>
     }
 }
 
-// The node of a number that is there.
-fn node_at(sheet: &Sheet, k: usize) -> Node
-    requires { k < length (nodes_of sheet.now) }
-    ensures is { result ≡ node_at (nodes_of sheet.now) k }
-    ensures parts { PartsBelow k result }
-{
-    sheet.node(k).unwrap()
+// A trial, in a lattice, of the nodes below `end`.
+#[derive(Drop)]
+struct Trial<'a, L: Lattice> {
+    lattice: &'a L,
+    sheet: &'a Sheet,
+    slots: &'a mut [L::Element],
+    end: usize,
+    ghost there: { end ≤ length (nodes_of sheet.now) },
+    ghost room: { end ≤ length slots.now },
 }
 
-// The functions take the lattice, the sheet and the slots one by one: a struct of them would be made in `try_in` alone,
-// and every clause would name its fields.
+impl<'a, L: Lattice> Trial<'a, L> {
+    ghost use Rattle.trying.specs.Trials.{nodes, NodeStrays, NodeReady, AllReady, FirstStray, Fills};
 
-// Whether node k is a variable whose slot the lattice does not admit.
-fn strays<L: Lattice>(lattice: &L, sheet: &Sheet, k: usize, slots: &[L::Element]) -> bool
-    requires node { k < length (nodes_of sheet.now) }
-    requires slot { k < length slots.now }
-    ensures { MatchBool result (Strays (L.means lattice.now) (nodes_of sheet.now) slots.now k) (ReadyAt (L.means lattice.now) (nodes_of sheet.now) slots.now k) }
-{
-    matches!(node_at(sheet, k), Node::Variable(_)) && !lattice.admits(slots[k])
-}
+    // The node of a number that is there.
+    fn node(&self, k: usize) -> Node
+        requires { k < self.now.end }
+        ensures is { result ≡ node_at (nodes self.now) k }
+        ensures parts { PartsBelow k result }
+    {
+        self.sheet.node(k).unwrap()
+    }
 
-// The first variable below `end` that strays.
-fn stray<L: Lattice>(lattice: &L, sheet: &Sheet, end: usize, slots: &[L::Element]) -> Option<usize>
-    requires nodes { end ≤ length (nodes_of sheet.now) }
-    requires room { end ≤ length slots.now }
-    ensures { MatchOption result (Ready (L.means lattice.now) (nodes_of sheet.now) end slots.now) (Stray (L.means lattice.now) (nodes_of sheet.now) end slots.now) }
-{
-    (0..end).find(|&k| strays(lattice, sheet, k, slots))
-}
+    // Whether node k is a variable whose slot the lattice does not admit.
+    fn strays(&self, k: usize) -> bool
+        requires { k < self.now.end }
+        ensures { MatchBool result (NodeStrays self.now k) (NodeReady self.now k) }
+    {
+        matches!(self.node(k), Node::Variable(_)) && !self.lattice.admits(self.slots[k])
+    }
 
-// Fills the slots of the meets and joins below `end`, each from the slots of its parts.
-fn fill<L: Lattice>(lattice: &L, sheet: &Sheet, end: usize, slots: &mut [L::Element])
-    requires nodes { end ≤ length (nodes_of sheet.now) }
-    requires room { end ≤ length slots.old }
-    requires ready { Ready (L.means lattice.now) (nodes_of sheet.now) end slots.old }
-    ensures filled { Filled (L.means lattice.now) (nodes_of sheet.now) end slots.old slots.new }
-    ensures admitted { Admitted (L.means lattice.now) end slots.new }
-{
-    // By index: slot k is written from others of the same slice.
-    for k in 0..end {
-        match node_at(sheet, k) {
-            Node::Variable(_) => {}
-            Node::Meet(a, b) => slots[k] = lattice.meet(slots[a], slots[b]),
-            Node::Join(a, b) => slots[k] = lattice.join(slots[a], slots[b]),
+    // The first variable that strays.
+    fn stray(&self) -> Option<usize>
+        ensures { MatchOption result (AllReady self.now) (FirstStray self.now) }
+    {
+        (0..self.end).find(|&k| self.strays(k))
+    }
+
+    // Fills the slots of the meets and joins, each from the slots of its parts.
+    fn fill(&mut self)
+        requires { AllReady self.old }
+        ensures { Fills self.old.end self.old self.new }
+    {
+        // By index: slot k is written from others of the same slice.
+        for k in 0..self.end {
+            match self.node(k) {
+                Node::Variable(_) => {}
+                Node::Meet(a, b) => self.slots[k] = self.lattice.meet(self.slots[a], self.slots[b]),
+                Node::Join(a, b) => self.slots[k] = self.lattice.join(self.slots[a], self.slots[b]),
+            }
         }
     }
 }
@@ -84,10 +90,15 @@ pub fn try_in<L: Lattice>(
     ensures law { Judged (L.means lattice.now) (nodes_of sheet.now) u v slots.old slots.new (told result) }
 {
     check(sheet, u, v, slots.len())?;
-    let end = u.max(v) + 1;
-    if let Some(k) = stray(lattice, sheet, end, slots) {
+    let mut trial = Trial {
+        lattice,
+        sheet,
+        slots,
+        end: u.max(v) + 1,
+    };
+    if let Some(k) = trial.stray() {
         return Err(Refusal::Unadmitted(k));
     }
-    fill(lattice, sheet, end, slots);
+    trial.fill();
     Ok(lattice.below(slots[u], slots[v]))
 }
