@@ -19,7 +19,7 @@ use sheet::{Node, Sheet};
 use std::alloc::{AllocError, Global};
 use trying::try_in;
 
-// The frame is the one that was closed last.
+// The frame is the one that was closed last. Clauses read a desk by `desk_of`, as they read its sheet by `state`.
 #[derive(Drop)]
 pub struct Desk {
     sheet: Sheet,

@@ -11,6 +11,7 @@ mod keep;
 // The most nodes that a sheet holds.
 pub const MOST: usize = 60;
 
+// Clauses read it by `state`, as no Model could: a model's value is data, and the settled pairs are a function.
 #[derive(Drop)]
 pub struct Sheet {
     records: Vec<Record>,
