@@ -16,7 +16,8 @@ impl Relation {
     }
 
     // Whether a is below b, if both are elements.
-    // Callers ask of elements only. A `requires` that says so would stand in five contracts, so other numbers get an answer too: the bit at their place, or no past the last bit.
+    // Callers ask of elements only. A `requires` that says so would stand in five contracts, so other numbers get an
+    // answer too: the bit at their place, or no past the last bit.
     #[tactic(auto, using(crate::proofs::Words::bit_read), unfolding(crate::specs::Order::le))]
     pub(crate) fn leq(self, a: u8, b: u8) -> bool
         ensures { result ≡ le self.word false a b }
