@@ -3,7 +3,10 @@
 
     python3 tools/forms.py [DIR]
 
-DIR is a checkout, or this one. Each line is a place to look at, under the number of its point.
+DIR is a checkout, or this one. Each line is a place to look at, under one of eight kinds:
+1 enums that may be an Option or a Result, flags, numbers for refusals; 2 functions alike but for names; 3 loops;
+4 conversions, tests and texts by hand; 5 clauses and parameters that repeat; 6 arrays and words; 7 traits, dyn and
+function pointers; 8 answers in proof files.
 """
 import os, re, sys, collections
 

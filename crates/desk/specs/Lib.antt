@@ -1,4 +1,5 @@
 pub mod Sites
+pub mod SitesTell
 pub mod Answers
 pub mod Desks
 pub mod View

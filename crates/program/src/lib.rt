@@ -1,8 +1,9 @@
 // A program that answers a script: where the script comes from, and where its transcript goes.
 #![tactic(auto)]
 
-ghost use Rattle.std.specs.Prelude.{◌≤◌};
+ghost use Rattle.std.specs.Prelude.{◌≡◌, ◌≤◌, IfOk};
 ghost use Rattle.std.specs.Process.{exit_status};
+ghost use Rattle.program.specs.Programs.{Transcribed};
 
 use anyhow::anyhow;
 use std::alloc::{AllocError, Global};
@@ -31,20 +32,22 @@ fn print<F: FnOnce(Global, &[u8]) -> Result<String, AllocError>>(
     transcribe: F,
 ) -> anyhow::Result<()>
     requires { F.IsAlwaysCallable transcribe }
+    ensures { IfOk result (λ _. Transcribed (F.post transcribe)) }
 {
     let script = input(rt, usage)?;
     rt.print(transcribe(rt.alloc(), script.as_slice())?)?;
     Ok(())
 }
 
-// Prints the transcript of the program's script. The status is 0; or 1, and then the error was printed.
+// Prints the transcript of the program's script. The status is 0 only if there was one, and else 1.
 pub fn run<F: FnOnce(Global, &[u8]) -> Result<String, AllocError>>(
     rt: &HostRuntime,
     usage: &'static str,
     transcribe: F,
 ) -> ExitCode
     requires { F.IsAlwaysCallable transcribe }
-    ensures { exit_status result ≤ 1 }
+    ensures status { exit_status result ≤ 1 }
+    ensures success { exit_status result ≡ 0 → Transcribed (F.post transcribe) }
 {
     match print(rt, usage, transcribe) {
         Ok(()) => ExitCode::SUCCESS,

@@ -1,18 +1,10 @@
-use Rattle.std.proofs.Common.{◌≡◌, ℕ, sym, ap, ◌+◌, ◌∙◌, rules, arith}
-use Rattle.frames.specs.declared.relation.Relation.{Relation}
+use Rattle.std.proofs.Common.{◌≡◌, sym, ap, ◌+◌, ◌∙◌, rules, arith}
 use Rattle.frames.specs.Tests.{word}
 use Rattle.frames.specs.Closing.{begun, linked, chained, closure}
 use Rattle.frames.specs.View.{Made}
 use Rattle.frames.proofs.Chains.{chained_none, chained_more}
 use Rattle.frames.proofs.Searches.{kept_of_fold}
 use Rattle.frames.proofs.relation.Relation.closure.Goals as goal
-
--- what is made of what was made of R, where the two words are the next ones
-made_next : (R S T : Relation) (f : ℕ → ℕ) (w v : ℕ) → Made R w S → Made S (f S.word) T → v ≡ f w → Made R v T
-made_next R S T f w v made next same =
-    let word : S.word ≡ w = grind (arith, made) in
-    let turned : f S.word ≡ v = ap f word ∙ sym same in
-    grind (arith, made, next, turned)
 
 pub returns : goal.returns
 unfolding closure
@@ -25,5 +17,7 @@ returns c =
       search rules,
       λ lt kept.
           let turn : Made order (word (linked order.word k)) next = search rules in
-          made_next R order next (λ w. word (linked w k)) (chained k lines) (chained (k + 1) lines) kept turn (chained_more k lines),
+          let same : order.word ≡ chained k lines = grind (arith, kept) in
+          let linked_same : word (linked order.word k) ≡ chained (k + 1) lines = ap (λ w. word (linked w k)) same ∙ sym (chained_more k lines) in
+          grind (arith, kept, turn, linked_same),
     ))
