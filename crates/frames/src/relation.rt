@@ -6,6 +6,7 @@ mod closing;
 mod making;
 
 // The elements are the numbers below `size`, and the bit of `word` worth 2^(8a + b) says that a is below b.
+// An order in one word is the subject's own form.
 #[derive(Clone, Copy)]
 pub(crate) struct Relation {
     size: u8,

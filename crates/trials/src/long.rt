@@ -11,7 +11,7 @@ type Parts = &'static [(&'static [u8], u32)];
 // A text by its parts and, from a blank sheet, the node that it is; every node that it enters stands before that one.
 type Granted = (Parts, usize);
 
-// A text by its parts, and on a blank sheet the number of its fault, and the place.
+// A text by its parts, and on a blank sheet the number of its fault, as users see it, and the place.
 type Refused = (Parts, u8, usize);
 
 // A list in the second place of a list, as (+x(+xx)), has its brackets at 0, 3, 6 and so on.

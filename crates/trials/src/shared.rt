@@ -35,7 +35,7 @@ pub(crate) fn granted(
     assert_eq!(rt; sheet.count(), count, "{label}");
 }
 
-// The layer that finds the faults of a number.
+// The layer that finds the faults of a number, by the numbers that the tables say.
 fn layer(number: u8) -> Layer {
     match number {
         1 | 2 => Layer::Cutter,
