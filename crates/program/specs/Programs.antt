@@ -1,6 +1,7 @@
 -- What a program that answers a script has done when it succeeds.
-use Rattle.std.specs.Prelude.{Ok, Result}
+use Rattle.std.specs.Prelude.{◌≡◌, ℕ, List, String, string_bytes}
+use Rattle.std.specs.declared.alloc.Global.{Global}
 
--- some script got a transcript, by what calls may answer
-abbrev pub Transcribed : {H S T E : Type 0} → (H → S → Result T E → Type 0) → Type 0
-Transcribed {H} {S} {T} answers = (heap : H) × (script : S) × (out : T) × answers heap script (Ok out)
+-- some script got the text that answers it
+abbrev pub Transcribed : (List ℕ → List ℕ) → Type 0
+Transcribed answers = (script : List ℕ) × (out : String Global) × (string_bytes out ≡ answers script)

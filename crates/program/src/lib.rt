@@ -1,7 +1,7 @@
 // A program that answers a script: where the script comes from, and where its transcript goes.
 #![tactic(auto)]
 
-ghost use Rattle.std.specs.Prelude.{◌≡◌, ◌≤◌, IfOk};
+ghost use Rattle.std.specs.Prelude.{◌≡◌, ◌≤◌, ℕ, List, IfOk, string_bytes};
 ghost use Rattle.std.specs.Process.{exit_status};
 ghost use Rattle.program.specs.Programs.{Transcribed};
 
@@ -10,6 +10,15 @@ use std::alloc::{AllocError, Global};
 use std::io::Read;
 use std::process::ExitCode;
 use std::{env, fs};
+
+// What answers scripts.
+pub trait Program {
+    // What the program answers to the bytes of a script.
+    ghost answers: { List ℕ → List ℕ };
+
+    fn transcribe(heap: Global, script: &[u8]) -> Result<String, AllocError>
+        ensures { IfOk result (λ s. string_bytes s ≡ answers script.now) };
+}
 
 // The bytes of the file that the one argument names, or of the standard input.
 fn input(rt: &HostRuntime, usage: &'static str) -> anyhow::Result<Vec<u8>> {
@@ -26,30 +35,20 @@ fn input(rt: &HostRuntime, usage: &'static str) -> anyhow::Result<Vec<u8>> {
     fs::read(rt, path.as_str()).map_err(|e| anyhow!("{path}: {e}"))
 }
 
-fn print<F: FnOnce(Global, &[u8]) -> Result<String, AllocError>>(
-    rt: &HostRuntime,
-    usage: &'static str,
-    transcribe: F,
-) -> anyhow::Result<()>
-    requires { F.IsAlwaysCallable transcribe }
-    ensures { IfOk result (λ _. Transcribed (F.post transcribe)) }
+fn print<P: Program>(rt: &HostRuntime, usage: &'static str) -> anyhow::Result<()>
+    ensures { IfOk result (λ _. Transcribed P.answers) }
 {
     let script = input(rt, usage)?;
-    rt.print(transcribe(rt.alloc(), script.as_slice())?)?;
+    rt.print(P::transcribe(rt.alloc(), script.as_slice())?)?;
     Ok(())
 }
 
 // Prints the transcript of the program's script. The status is 0 only if there was one, and else 1.
-pub fn run<F: FnOnce(Global, &[u8]) -> Result<String, AllocError>>(
-    rt: &HostRuntime,
-    usage: &'static str,
-    transcribe: F,
-) -> ExitCode
-    requires { F.IsAlwaysCallable transcribe }
+pub fn run<P: Program>(rt: &HostRuntime, usage: &'static str) -> ExitCode
     ensures status { exit_status result ≤ 1 }
-    ensures success { exit_status result ≡ 0 → Transcribed (F.post transcribe) }
+    ensures success { exit_status result ≡ 0 → Transcribed P.answers }
 {
-    match print(rt, usage, transcribe) {
+    match print::<P>(rt, usage) {
         Ok(()) => ExitCode::SUCCESS,
         Err(e) => {
             let _ = eprintln!(rt; "{e}");

@@ -3,9 +3,9 @@
 
 mod script;
 
-use script::transcribe;
+use script::Workdesk;
 use std::process::ExitCode;
 
 fn main(rt: HostRuntime) -> ExitCode {
-    program::run(&rt, "workdesk [FILE]", transcribe)
+    program::run::<Workdesk>(&rt, "workdesk [FILE]")
 }

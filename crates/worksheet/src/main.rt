@@ -3,9 +3,9 @@
 
 mod script;
 
-use script::transcribe;
+use script::Worksheet;
 use std::process::ExitCode;
 
 fn main(rt: HostRuntime) -> ExitCode {
-    program::run(&rt, "worksheet [FILE]", transcribe)
+    program::run::<Worksheet>(&rt, "worksheet [FILE]")
 }
