@@ -1,9 +1,7 @@
 -- The bits of words.
-use Rattle.std.proofs.Common.{◌≡◌, ℕ, zero, suc, ◌+◌, ◌-◌, ◌*◌, ◌/◌, ◌%◌, ◌^◌, ◌<◌, ◌≤◌, max, Bool, true, false, cond, ◌||◌, eqb, Some, None, Option, ◌⊎◌, Decides, sym, refl, ap, ◌∙◌, inl, inr, eq-or-lt_of_le, add-one, arith}
+use Rattle.std.proofs.Common.{◌≡◌, ℕ, zero, suc, ◌+◌, ◌-◌, ◌*◌, ◌/◌, ◌%◌, ◌^◌, ◌<◌, ◌≤◌, max, Bool, true, false, cond, ◌||◌, eqb, ◌⊎◌, Decides, sym, refl, ap, ◌∙◌, inl, inr, eq-or-lt_of_le, add-one, arith}
 use Rattle.std.specs.Int.Bits.{or_zero_r}
 use Rattle.std.specs.Int.{from_bool, bit_at}
-use Rattle.std.specs.Option.{SomeIff, unwrap_or}
-use Rattle.std.proofs.Math.Nat.{div-eq_of_lt, pow-le-pow_right}
 use native.Mathlib.Nat.{add-mul-div_left, add-mul-mod_self_left}
 use lib.Bits.{bit_or, or_shifted_r}
 use Rattle.std.proofs.lemmas.Nat.{pow_pos, pow-add, one_shl, div-mul-add}
@@ -65,13 +63,11 @@ bit_word (suc k) q p h =
       | inr lt ↦ low_bit (word_below k p) q k (p k) lt ∙ bit_word k q p lt
     ]
 
--- the bit at a place that may be past the last one, from what a shift and a default gave
-pub bit_read : (w k x : ℕ) (o : Option ℕ) → w < 2 ^ 64 → SomeIff o (k < 64) (w / 2 ^ k) → x ≡ unwrap_or o 0 → eqb (x % 2) 1 ≡ bit w k
-bit_read w k x (Some v) h shifted e = ap (λ y. eqb (y % 2) 1) (e ∙ shifted.1)
-bit_read w k x None h past e =
-    let past_end : 64 ≤ k = omega arith in
-    let long : 2 ^ 64 ≤ 2 ^ k = pow-le-pow_right {n = 2} (omega arith) {i = 64} past_end in
-    ap (λ y. eqb (y % 2) 1) (e ∙ sym (div-eq_of_lt (omega arith)))
+-- the bit at a place, from what a shift that wraps gave
+pub bit_read : (w a b x : ℕ) → a < 8 → b < 8 → x ≡ w / 2 ^ ((8 * a + b) % 64) → eqb (x % 2) 1 ≡ bit w (8 * a + b)
+bit_read w a b x h k e =
+    let place : (8 * a + b) % 64 ≡ 8 * a + b = omega arith in
+    ap (λ y. eqb (y % 2) 1) (e ∙ ap (λ q. w / 2 ^ q) place)
 
 -- a power of two has one bit
 pow_bit : (k q : ℕ) → Decides (bit (2 ^ k) q) (q ≡ k)

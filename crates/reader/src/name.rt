@@ -11,11 +11,9 @@ pub fn variable(text: &[u8]) -> Option<u64>
     ensures law { Naming text.now result }
 {
     let mut cutter = Cutter::new(text);
-    let (Ok(Some(token)), Ok(None)) = (cutter.next(), cutter.next()) else {
-        return None;
-    };
-    match token.kind {
-        Kind::Variable(code) => Some(code),
+    let token = cutter.next().ok()??;
+    match (token.kind, cutter.next()) {
+        (Kind::Variable(code), Ok(None)) => Some(code),
         _ => None,
     }
 }

@@ -1,8 +1,8 @@
 -- What finding a node tells, and the invariants of the nodes when one is added or the last are taken off.
-use Rattle.std.proofs.Common.{◌≡◌, ℕ, zero, suc, ◌+◌, ◌<◌, Bool, true, false, cond, ◌⊎◌, List, [], ◌∷◌, ◌++◌, length, take, is_some, Some, None, Option, sym, refl, ap, ap₂, ◌∙◌, subst, inl, inr, ⊎_elim, arith}
+use Rattle.std.proofs.Common.{◌≡◌, ℕ, zero, suc, ◌+◌, ◌<◌, ◌≤◌, Bool, true, false, cond, ◌⊎◌, List, [], ◌∷◌, ◌++◌, length, take, drop, is_some, Some, None, Option, sym, refl, ap, ap₂, ◌∙◌, subst, inl, inr, ⊎_elim, arith}
 use Rattle.std.specs.List.{position_from}
 use Rattle.std.proofs.lemmas.Bool.Decides.{nat_tests}
-use Rattle.std.proofs.lemmas.List.{length_push, get_or_push, get_or_append_left, length-take, get_or-take}
+use Rattle.std.proofs.lemmas.List.{at_drop_more, at_drop_all, length_push, get_or_push, get_or_append_left, length-take, get_or-take}
 use Rattle.sheet.specs.declared.node.Node.{Node}
 use Rattle.sheet.specs.declared.node.Node.TheVariants.{Variable, Meet, Join}
 use Rattle.sheet.specs.declared.node.Record.{Record}
@@ -11,7 +11,7 @@ use Rattle.sheet.specs.Nodes.{same, find, fits, node_at, Grounded, Distinct}
 use Rattle.sheet.specs.Records.{nodes}
 
 -- the number of the first node that is n, counted from k
-abbrev find_from : ℕ → List Node → Node → Option ℕ
+abbrev pub find_from : ℕ → List Node → Node → Option ℕ
 find_from k ns n = position_from (λ m. same m n) k ns
 
 pub same_self : (n : Node) → same n n ≡ true
@@ -48,6 +48,14 @@ equals (Join a b) (Join x y) false h = grind (arith, nat_tests, h)
 pub position_of_nodes : (n : Node) (k : ℕ) (rs : List Record) → position_from (λ (r : Record). ghosts.eq r.node n) k rs ≡ find_from k (nodes rs) n
 position_of_nodes n k [] = refl
 position_of_nodes n k (r ∷ rs) = ap₂ (λ b o. cond b (Some k) o) (equals r.node n _ refl) (position_of_nodes n (k + 1) rs)
+
+-- one step of the search: b is what `==` answered for the node x, which stands at the number k
+pub find_step : (ns : List Node) (k : ℕ) (x n : Node) (b : Bool) → k < length ns → x ≡ node_at ns k → (b ≡ ghosts.eq x n) → find_from k (drop k ns) n ≡ cond b (Some k) (find_from (k + 1) (drop (k + 1) ns) n)
+find_step ns k x n b lt is e =
+    at_drop_more (λ l. find_from k l n) ns k (Variable 0) lt ∙ ap (λ y. cond y (Some k) (find_from (k + 1) (drop (k + 1) ns) n)) (sym (equals x n b e ∙ ap (λ m. same m n) is))
+
+pub find_end : (ns : List Node) (k : ℕ) (n : Node) → length ns ≤ k → find_from k (drop k ns) n ≡ None
+find_end ns k n le = at_drop_all (λ l. find_from k l n) ns k le
 
 -- where a node was found, it is
 pub record Here (ns : List Node) (j k : ℕ) (n : Node) : Type 0 where

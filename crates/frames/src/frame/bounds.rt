@@ -1,5 +1,5 @@
 // Frames as lattices.
-ghost use Rattle.std.specs.Prelude.{◌≡◌, Decides, nat_lt};
+ghost use Rattle.std.specs.Prelude.{◌≡◌, ◌<◌, Decides, nat_lt};
 ghost use Rattle.lattice.specs.Answers.{Meets, Joins, Compares};
 ghost use Rattle.frames.specs.Order.{bound_in, frame, Greatest, Least, Orders};
 ghost use Rattle.frames.specs.View.{frame_of};
@@ -17,10 +17,13 @@ impl Frame {
         self.order.size()
     }
 
-    // The meet of two elements, or their join where `up`.
+    // The meet of two elements, or their join where `up`; 0, if one of them is no element.
     fn bound(&self, up: bool, a: u8, b: u8) -> u8
-        ensures { result ≡ bound_in self.now.order.size self.now.order.word up a b }
+        ensures { a < self.now.order.size → b < self.now.order.size → result ≡ bound_in self.now.order.size self.now.order.word up a b }
     {
+        if a >= self.size() || b >= self.size() {
+            return 0;
+        }
         self.order.bound(up, a, b).unwrap_or(0)
     }
 }
@@ -58,6 +61,6 @@ impl Lattice for Frame {
         ensures compares { Compares (frame (frame_of self.now)) a b result }
         ensures order { Orders (frame_of self.now) a b result }
     {
-        self.order.leq(a, b)
+        a < self.size() && b < self.size() && self.order.leq(a, b)
     }
 }

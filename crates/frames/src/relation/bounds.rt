@@ -1,7 +1,7 @@
 // Reading a relation: its size, what is below what, and greatest lower bounds.
 // A method with `up` looks at the relation from below, or from above where `up`: then what it says of meets it says of joins.
 // `up` is a bool, since the definitions and a frame's ghost field `complete` speak of it as one.
-ghost use Rattle.std.specs.Prelude.{◌≡◌, false};
+ghost use Rattle.std.specs.Prelude.{◌≡◌, ◌<◌, false};
 ghost use Rattle.frames.specs.Order.{le, follows, best, bound};
 
 use crate::pairs::place;
@@ -15,34 +15,33 @@ impl Relation {
         self.size
     }
 
-    // Whether a is below b, if both are elements.
-    // Callers ask of elements only. A `requires` that says so would stand in five contracts, so other numbers get an
-    // answer too: the bit at their place, or no past the last bit.
+    // Whether a is below b, for numbers below 8. Of others it reads some bit, since a test of pairs can be called of any:
+    // so this is no `requires`, and what is said here and below is said of numbers below 8.
     #[tactic(auto, using(crate::proofs::Words::bit_read), unfolding(crate::specs::Order::le))]
     pub(crate) fn leq(self, a: u8, b: u8) -> bool
-        ensures { result ≡ le self.word false a b }
+        ensures { a < 8 → b < 8 → result ≡ le self.word false a b }
     {
-        self.word.checked_shr(place(a, b)).unwrap_or(0) % 2 == 1
+        self.word.wrapping_shr(place(a, b)) % 2 == 1
     }
 
     // Whether a is below b, or above it where `up`.
     #[tactic(auto, unfolding(crate::specs::Order::le))]
     fn faces(self, up: bool, a: u8, b: u8) -> bool
-        ensures { result ≡ le self.word up a b }
+        ensures { a < 8 → b < 8 → result ≡ le self.word up a b }
     {
         if up { self.leq(b, a) } else { self.leq(a, b) }
     }
 
     // Whether d, if it is below a and b, is below c.
     fn stays_below(self, up: bool, a: u8, b: u8, c: u8, d: u8) -> bool
-        ensures { result ≡ follows self.word up a b c d }
+        ensures { a < 8 → b < 8 → c < 8 → d < 8 → result ≡ follows self.word up a b c d }
     {
         !self.faces(up, d, a) || !self.faces(up, d, b) || self.faces(up, d, c)
     }
 
     // Whether c is the greatest lower bound of a and b.
     fn is_best(self, up: bool, a: u8, b: u8, c: u8) -> bool
-        ensures { result ≡ best self.size self.word up a b c }
+        ensures { a < 8 → b < 8 → c < 8 → result ≡ best self.size self.word up a b c }
     {
         self.faces(up, c, a)
             && self.faces(up, c, b)
@@ -51,7 +50,7 @@ impl Relation {
 
     // The greatest lower bound of a and b.
     pub(crate) fn bound(self, up: bool, a: u8, b: u8) -> Option<u8>
-        ensures { result ≡ bound self.size self.word up a b }
+        ensures { a < 8 → b < 8 → result ≡ bound self.size self.word up a b }
     {
         (0..self.size).find(|&c| self.is_best(up, a, b, c))
     }

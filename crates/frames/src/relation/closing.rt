@@ -1,5 +1,5 @@
 // The order that lines make, and why an order is no lattice.
-ghost use Rattle.std.specs.Prelude.{◌≡◌, ℕ, Bool};
+ghost use Rattle.std.specs.Prelude.{◌≡◌, ◌<◌, ℕ, Bool};
 ghost use Rattle.std.specs.Result.{result_err};
 ghost use Rattle.frames.specs.Tests.{first_pair, word, rising, Says};
 ghost use Rattle.frames.specs.Closing.{begun, linked, closure, cyclic, gap, amiss};
@@ -19,7 +19,7 @@ impl Relation {
 
     // The relation with what goes by way of k.
     fn linked(self, k: u8) -> Relation
-        ensures { Made self (word (linked self.word k)) result }
+        ensures { k < 8 → Made self (word (linked self.word k)) result }
     {
         self.of_pairs(|a, b| self.leq(a, b) || (self.leq(a, k) && self.leq(k, b)))
     }
@@ -56,7 +56,7 @@ impl Relation {
     }
 
     // Refuses an order that is no lattice.
-    #[tactic(auto, unfolding(crate::specs::Closing::amiss))]
+    #[tactic(auto, using(crate::specs::Finding::pair_small), unfolding(crate::specs::Closing::amiss))]
     pub(crate) fn check(self) -> Result<(), Refusal>
         ensures { result_err result ≡ amiss self.size self.word }
     {

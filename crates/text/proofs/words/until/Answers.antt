@@ -1,4 +1,4 @@
-use Rattle.std.proofs.Common.{◌≡◌, ℕ, ◌≤◌, cond, ltb, eqb, not, length, Some, None, ap, ◌∙◌, arith, rules, tests}
+use Rattle.std.proofs.Common.{◌≡◌, ℕ, ◌≤◌, cond, ltb, eqb, not, Some, None, arith, rules, tests}
 use Rattle.std.specs.Option.{unwrap_or}
 use Rattle.std.proofs.lemmas.Iterator.{YieldsList-from_slice}
 use Rattle.std.proofs.lemmas.Iterator.Search.{position_from_yields_List}
@@ -13,4 +13,5 @@ returns-clause-value c =
     let xs = c.args.bytes.now in
     let stop = c.args.stop in
     let told = position_from_yields_List (λ b. eqb b stop) _ _ c.position.result c.position.ensures.ran (YieldsList-from_slice xs cc) (λ x b q k. search (rules, tests)) in
-    c.unwrap_or.ensures ∙ ap (λ o. unwrap_or o (length xs)) told ∙ place_or_end _ _ (prefix_len-le-length (λ b. not (eqb b stop)) xs)
+    let place = place_or_end _ _ (prefix_len-le-length (λ b. not (eqb b stop)) xs) in
+    grind (arith, tests, told, place)

@@ -1,4 +1,4 @@
-use Rattle.std.proofs.Common.{◌∙◌, vec_items, rules, tests}
+use Rattle.std.proofs.Common.{◌∙◌, vec_items, rules, tests, arith}
 use Rattle.std.proofs.lemmas.Iterator.{YieldsList-from_slice}
 use Rattle.std.proofs.lemmas.Iterator.Adapters.{position_from-zero}
 use Rattle.std.proofs.lemmas.Iterator.Search.{position_from_yields_List}
@@ -12,5 +12,6 @@ returns c =
     let rs = vec_items c.args.self.now.records in
     let n = c.args.node in
     let test = λ (r : Record). ghosts.eq r.node n in
-    position_from_yields_List test _ _ c.position.result c.position.ensures.ran (YieldsList-from_slice rs cc) (λ x b q k. search (rules, tests))
-    ∙ position_from-zero test rs ∙ position_of_nodes n 0 rs
+    let told = position_from_yields_List test _ _ c.position.result c.position.ensures.ran (YieldsList-from_slice rs cc) (λ x b q k. search (rules, tests)) in
+    let found = position_from-zero test rs ∙ position_of_nodes n 0 rs in
+    grind (arith, told, found)

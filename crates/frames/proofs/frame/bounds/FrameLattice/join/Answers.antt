@@ -10,4 +10,4 @@ returns-clause-least c =
     let f = c.args.self.now in
     let a = c.args.a in
     let b = c.args.b in
-    λ p q. subst (Supremum (λ x. x < f.order.size) (Le (frame_of f)) a b) (sym c.bound.ensures) ((bounded f).suprema a b p q)
+    λ p q. subst (Supremum (λ x. x < f.order.size) (Le (frame_of f)) a b) (sym (c.bound.ensures p q)) ((bounded f).suprema a b p q)

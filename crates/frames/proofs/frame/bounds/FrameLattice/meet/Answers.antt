@@ -10,4 +10,4 @@ returns-clause-greatest c =
     let f = c.args.self.now in
     let a = c.args.a in
     let b = c.args.b in
-    λ p q. subst (Infimum (λ x. x < f.order.size) (Le (frame_of f)) a b) (sym c.bound.ensures) ((bounded f).infima a b p q)
+    λ p q. subst (Infimum (λ x. x < f.order.size) (Le (frame_of f)) a b) (sym (c.bound.ensures p q)) ((bounded f).infima a b p q)
