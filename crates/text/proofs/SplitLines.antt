@@ -1,7 +1,8 @@
 -- A script's first line, and its other lines.
-use Rattle.std.proofs.Common.{◌≡◌, ℕ, zero, suc, ◌-◌, ◌<◌, Bool, true, false, eqb, List, [], ◌∷◌, length, get_or, take, drop, sym, refl, ap, ◌∙◌, one-add, arith, eq-eqb}
+use Rattle.std.proofs.Common.{◌≡◌, ℕ, zero, suc, ◌+◌, ◌-◌, ◌<◌, Bool, true, false, eqb, List, [], ◌∷◌, length, get_or, take, drop, Some, sym, refl, ap, ◌∙◌, one-add, arith, eq-eqb}
 use mathlib.Core.Bool.{and-false}
 use Rattle.std.proofs.lemmas.Bool.Decides.{nat_tests}
+use Rattle.std.proofs.lemmas.List.{drop-drop, length-drop}
 use Rattle.text.specs.Words.{reach, spread}
 use Rattle.text.specs.Lines.{longer, lines_of, chomped, fed_line, first_line}
 
@@ -44,3 +45,15 @@ by_feed b (c ∷ cs) false f more = before b c cs (eqb c 10) refl (eqb b 13) ref
 pub lines_first : (l : List ℕ) → lines_of l ≡ spread lines_of (first_line l)
 lines_first [] = refl
 lines_first (b ∷ bs) = by_feed b bs (eqb b 10) refl (lines_first bs)
+
+fed_line_some : (l d : List ℕ) → 0 < length d → (chomped l, drop 1 d) ≡ fed_line l d
+fed_line_some l [] h = absurd (omega arith)
+fed_line_some l (b ∷ bs) h = refl
+
+-- the first line of a script with a line feed at n
+pub line_at : (s : List ℕ) (n : ℕ) → n ≡ reach 10 s → n < length s → Some (chomped (take n s), drop (n + 1) s) ≡ first_line s
+line_at [] n e h = absurd (omega arith)
+line_at (b ∷ bs) n e h =
+    let some : 0 < length (drop n (b ∷ bs)) = omega (arith, length-drop n (b ∷ bs)) in
+    ap (λ d. Some (chomped (take n (b ∷ bs)), d)) (sym (drop-drop 1 n (b ∷ bs))) ∙ ap Some (fed_line_some (take n (b ∷ bs)) (drop n (b ∷ bs)) some)
+    ∙ ap (λ k. Some (fed_line (take k (b ∷ bs)) (drop k (b ∷ bs)))) e

@@ -1,11 +1,19 @@
-use Rattle.std.proofs.Common.{arith}
+use Rattle.std.proofs.Common.{sym, ap, ◌∙◌, ◌+◌, arith}
 use Rattle.std.proofs.lemmas.Grind.{common_steps}
 use Rattle.std.proofs.lemmas.List.{take_rest}
-use Rattle.text.proofs.SplitLines.{lines_first}
+use Rattle.text.specs.Words.{spread}
+use Rattle.text.specs.Lines.{lines_of}
+use Rattle.text.proofs.SplitLines.{lines_first, line_at}
 use Rattle.text.proofs.lines.split_line.Goals as goal
 
-pub returns-in-empty-clause-lines : goal.returns-in-empty-clause-lines
-returns-in-empty-clause-lines c = grind (arith, common_steps, lines_first)
+pub returns-else-is_empty-clause-lines : goal.returns-else-is_empty-clause-lines
+returns-else-is_empty-clause-lines c = grind (arith, common_steps, lines_first)
 
-pub returns-in-len1-up-clause-lines : goal.returns-in-len1-up-clause-lines
-returns-in-len1-up-clause-lines c = grind (arith, common_steps, lines_first, take_rest)
+pub returns-clause-value : goal.returns-clause-value
+returns-clause-value c =
+    let s = c.args.script.now in
+    let n = c.in-Some.end in
+    grind (arith, common_steps, take_rest s (n + 1), line_at s n)
+
+pub returns-clause-lines : goal.returns-clause-lines
+returns-clause-lines c = lines_first c.args.script.now ∙ ap (spread lines_of) (sym (returns-clause-value c))
