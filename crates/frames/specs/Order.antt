@@ -5,7 +5,8 @@
 --   bound n w up a b   the greatest lower bound of a and b, if there is one
 --   Le F a b           a is below b in the frame F
 --   frame F            the lattice that the frame F is
-use Rattle.std.specs.Prelude.{◌≡◌, ℕ, ◌+◌, ◌*◌, ◌<◌, Bool, true, false, not, ◌&&◌, ◌||◌, is_some, Decides, Option}
+--   inside F a b       both are elements of the frame F
+use Rattle.std.specs.Prelude.{◌≡◌, ℕ, ◌+◌, ◌*◌, ◌<◌, Bool, true, false, not, ◌&&◌, ◌||◌, is_some, Decides, Option, nat_lt}
 use Rattle.std.specs.Option.{unwrap_or}
 use Rattle.free_lattice.specs.Lattices.{Meaning}
 use Rattle.free_lattice.specs.Bounds.{Infimum, Supremum}
@@ -35,6 +36,9 @@ Le F a b = le F.order false a b ≡ true
 
 abbrev pub frame : Framed → Meaning ℕ
 frame F = record { admitted = λ x. x < F.size; meet = bound_in F.size F.order false; join = bound_in F.size F.order true }
+
+abbrev pub inside : Framed → ℕ → ℕ → Bool
+inside F a b = nat_lt a F.size && nat_lt b F.size
 
 -- What the functions of a frame answer by its order, wherever the two are elements.
 -- c is the greatest element below a and b

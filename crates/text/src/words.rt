@@ -1,16 +1,23 @@
 // The words of a line, and the numbers that words write.
-ghost use Rattle.std.specs.Prelude.{◌≡◌, ◌<◌, ◌≤◌, length, IfSome};
+ghost use Rattle.std.specs.Prelude.{◌≡◌, ◌<◌, ◌≤◌, length, IfSome, MatchOption};
 ghost use Rattle.std.specs.Option.{option_map};
 ghost use Rattle.std.specs.Str.{bytes_eq};
 ghost use Rattle.text.specs.Words.{reach, trimmed, first_word, words_of, spread, pointed, none};
 ghost use Rattle.text.specs.Words.{digit_behind, numeral, one_number, two_numbers};
+
+// Where the first `stop` stands, if there is one.
+pub(crate) fn first(bytes: &[u8], stop: u8) -> Option<usize>
+    ensures { MatchOption result (reach stop bytes.now ≡ length bytes.now) (λ n. (n ≡ reach stop bytes.now) × (n < length bytes.now)) }
+{
+    bytes.iter().position(|b| *b == stop)
+}
 
 // How many bytes stand before the first `stop`: all of them, if there is none.
 pub fn until(bytes: &[u8], stop: u8) -> usize
     ensures value { result ≡ reach stop bytes.now }
     ensures bound { result ≤ length bytes.now }
 {
-    bytes.iter().position(|b| *b == stop).unwrap_or(bytes.len())
+    first(bytes, stop).unwrap_or(bytes.len())
 }
 
 // The line from its first word on.

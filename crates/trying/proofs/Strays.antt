@@ -1,5 +1,5 @@
 -- The search for the first variable whose slot is not admitted.
-use Rattle.std.proofs.Common.{◌≡◌, ℕ, ◌<◌, ◌≤◌, Bool, true, false, List, Some, None, Option, subst, arith}
+use Rattle.std.proofs.Common.{◌≡◌, ℕ, ◌<◌, ◌≤◌, Bool, true, false, List, Some, None, Option, arith}
 use Rattle.std.specs.Bool.{⊤}
 use Rattle.std.specs.Fn.{CalledAt}
 use Rattle.std.specs.Iterator.{YieldsThen}
@@ -27,7 +27,3 @@ module _ {E : Type 0} (m : Meaning E) (ns : List Node) (s : List E) where
       × FoldsTo (λ p x q. CalledAt g p x false q) f xs j × MatchOption r ⊤ (λ x. (h : F) × CalledAt g j x true h)
       → ((x : ℕ) (q : F) → CalledAt g f x true q → Strays m ns s x) → ((x : ℕ) (q : F) → CalledAt g f x false q → (q ≡ f) × ReadyAt m ns s x) → MatchOption r (Ready m ns n s) (Stray m ns n s)
   stray_of_find n u f r ran hit miss = stray_by n r (first_from_Range (record { start = 0; end = n }) u f r (Strays m ns s) (ReadyAt m ns s) ran hit miss)
-
-  -- what a search below n found is what one below end finds, if these are the same
-  pub stray_of_all : (n end : ℕ) (r q : Option ℕ) → n ≡ end → r ≡ q → MatchOption r (Ready m ns n s) (Stray m ns n s) → MatchOption q (Ready m ns end s) (Stray m ns end s)
-  stray_of_all n end r q whole same found = subst (λ i. MatchOption q (Ready m ns i s) (Stray m ns i s)) whole (subst (λ o. MatchOption o (Ready m ns n s) (Stray m ns n s)) same found)

@@ -1,7 +1,7 @@
 // Frames as lattices.
-ghost use Rattle.std.specs.Prelude.{◌≡◌, ◌<◌, Decides, nat_lt};
+ghost use Rattle.std.specs.Prelude.{◌≡◌, cond, false, Decides, nat_lt};
 ghost use Rattle.lattice.specs.Answers.{Meets, Joins, Compares};
-ghost use Rattle.frames.specs.Order.{bound_in, frame, Greatest, Least, Orders};
+ghost use Rattle.frames.specs.Order.{bound_in, frame, inside, Greatest, Least, Orders};
 ghost use Rattle.frames.specs.View.{frame_of};
 ghost use Rattle.free_lattice.proofs.Bounds.{laws_of_bounded};
 ghost use Rattle.frames.specs.Framing.{bounded};
@@ -19,12 +19,13 @@ impl Frame {
 
     // The meet of two elements, or their join where `up`; 0, if one of them is no element.
     fn bound(&self, up: bool, a: u8, b: u8) -> u8
-        ensures { a < self.now.order.size → b < self.now.order.size → result ≡ bound_in self.now.order.size self.now.order.word up a b }
+        ensures { result ≡ cond (inside (frame_of self.now) a b) (bound_in self.now.order.size self.now.order.word up a b) 0 }
     {
-        if a >= self.size() || b >= self.size() {
-            return 0;
+        if self.admits(a) && self.admits(b) {
+            self.order.bound(up, a, b).unwrap_or(0)
+        } else {
+            0
         }
-        self.order.bound(up, a, b).unwrap_or(0)
     }
 }
 
@@ -45,6 +46,7 @@ impl Lattice for Frame {
     fn meet(&self, a: u8, b: u8) -> u8
         ensures meets { Meets (frame (frame_of self.now)) a b result }
         ensures greatest { Greatest (frame_of self.now) a b result }
+        ensures others { inside (frame_of self.now) a b ≡ false → result ≡ 0 }
     {
         self.bound(false, a, b)
     }
@@ -52,6 +54,7 @@ impl Lattice for Frame {
     fn join(&self, a: u8, b: u8) -> u8
         ensures joins { Joins (frame (frame_of self.now)) a b result }
         ensures least { Least (frame_of self.now) a b result }
+        ensures others { inside (frame_of self.now) a b ≡ false → result ≡ 0 }
     {
         self.bound(true, a, b)
     }
@@ -60,7 +63,8 @@ impl Lattice for Frame {
     fn below(&self, a: u8, b: u8) -> bool
         ensures compares { Compares (frame (frame_of self.now)) a b result }
         ensures order { Orders (frame_of self.now) a b result }
+        ensures others { inside (frame_of self.now) a b ≡ false → result ≡ false }
     {
-        a < self.size() && b < self.size() && self.order.leq(a, b)
+        self.admits(a) && self.admits(b) && self.order.leq(a, b)
     }
 }

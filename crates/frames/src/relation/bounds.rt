@@ -15,8 +15,8 @@ impl Relation {
         self.size
     }
 
-    // Whether a is below b, for numbers below 8. Of others it reads some bit, since a test of pairs can be called of any:
-    // so this is no `requires`, and what is said here and below is said of numbers below 8.
+    // Whether a is below b, for numbers below 8. For others it reads some bit: a test of pairs may be called for any
+    // numbers, so there is no `requires`, and the clauses below speak of numbers below 8.
     #[tactic(auto, using(crate::proofs::Words::bit_read), unfolding(crate::specs::Order::le))]
     pub(crate) fn leq(self, a: u8, b: u8) -> bool
         ensures { a < 8 → b < 8 → result ≡ le self.word false a b }

@@ -6,14 +6,14 @@ use Rattle.text.specs.Lines.{lines_of}
 use Rattle.text.proofs.SplitLines.{lines_first, line_at}
 use Rattle.text.proofs.lines.split_line.Goals as goal
 
-pub returns-else-is_empty-clause-lines : goal.returns-else-is_empty-clause-lines
-returns-else-is_empty-clause-lines c = grind (arith, common_steps, lines_first)
+pub returns-in-None-2-clause-lines : goal.returns-in-None-2-clause-lines
+returns-in-None-2-clause-lines c = grind (arith, common_steps, lines_first)
 
-pub returns-clause-value : goal.returns-clause-value
-returns-clause-value c =
+pub returns-in-Some-clause-value : goal.returns-in-Some-clause-value
+returns-in-Some-clause-value c =
     let s = c.args.script.now in
     let n = c.in-Some.end in
     grind (arith, common_steps, take_rest s (n + 1), line_at s n)
 
-pub returns-clause-lines : goal.returns-clause-lines
-returns-clause-lines c = lines_first c.args.script.now ∙ ap (spread lines_of) (sym (returns-clause-value c))
+pub returns-in-Some-clause-lines : goal.returns-in-Some-clause-lines
+returns-in-Some-clause-lines c = lines_first c.args.script.now ∙ ap (spread lines_of) (sym (returns-in-Some-clause-value c))
